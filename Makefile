@@ -116,7 +116,7 @@ plain-library: $(plain)/target/release/libbb.so ## link the library of that work
 $(plain)/built-bb_c: always
 	@plain/build.py bb_c
 
-# The eight calls and bb_is_plain stay global; Rust's std becomes local, so that a Rust program has its own beside it.
+# The nine calls and bb_is_plain stay global; Rust's std becomes local, so that a Rust program has its own beside it.
 $(plain)/target/release/libbb.so: $(plain)/built-bb_c
 	@set -e; parts=$$(mktemp -d); trap 'rm -rf "$$parts"' EXIT; cd $(@D); \
 	calls=$$(nm -g --defined-only libbb_c.a 2>/dev/null | sed -n 's/^.* T \(bb_[a-z_]*\)$$/-u \1/p'); \
@@ -126,11 +126,11 @@ $(plain)/target/release/libbb.so: $(plain)/built-bb_c
 	cc -shared -Wl,-soname,libbb.so -Wl,-z,noexecstack -o "$$parts/libbb.so" "$$parts/bb.o"; \
 	mv "$$parts/libbb.so" libbb.so
 
-manual_page := docs/budlarem.1
+manual_page := out/budlarem.1
 
 .PHONY: manual
-manual: ## write the manual page of the command budlarem from its parser, docs/budlarem.1
-	@$(python) python/build_manual.py $(manual_page)
+manual: ## write the manual page of the command budlarem from its parser, out/budlarem.1
+	@mkdir -p $(dir $(manual_page)); $(python) python/build_manual.py $(manual_page)
 
 ## The second checker
 

@@ -23,7 +23,7 @@ from typing import Any, Callable, Iterator
 from measuring import NULL, TOP, Table, clock, has, list_machines, make, parser, program_of, run, use_library
 
 import budlarem
-from budlarem._library import ReplyBuffer, validate_replies
+from budlarem._library import call_library, validate_replies
 from support.browser import Page
 from support.examples import README
 from support.machines import CHAMPION, CHAMPION_STEPS
@@ -101,16 +101,16 @@ def memory_after(bench: Bench, name: str, plan: dict[str, int], given: bytes, ti
 
 def measure_trace(bench: Bench) -> None:
     """The champion's run in a thousand lines by `bb_trace`, beside deciding it."""
-    room, machine, cells = ReplyBuffer(), CHAMPION.encode(), 65_536
+    machine, cells = CHAMPION.encode(), 65_536
     every = CHAMPION_STEPS // (TRACED_LINES - 1)
     lines: list[int] = []
 
     def trace() -> None:
-        room.call("bb_trace", (50_000_000, cells, 0, every), machine, 1 << 26)
-        lines.append(room.reply().text.count(b"\n"))
+        reply = call_library("bb_trace", (50_000_000, cells, 0, every), machine, 1 << 26)
+        lines.append(reply.text.count(b"\n"))
 
     def decide(on: bool) -> None:
-        room.call("bb_decide", (50_000_000, cells, 300, 1_000_000, on, on, on), machine + b"\n", 1_000)
+        call_library("bb_decide", (50_000_000, cells, 300, 1_000_000, on, on, on), machine + b"\n", 1_000)
 
     works = (trace, lambda: decide(True), lambda: decide(False))
     timed = (functools.partial(clock, work, time.process_time) for work in works)

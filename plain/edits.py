@@ -28,11 +28,11 @@ TOP = pathlib.Path(__file__).resolve().parents[1]
 sys.path[:0] = [str(TOP), str(TOP / "tests"), str(TOP / "python" / "src")]
 
 from plain.erase import PROFILES, Source, plain, write_workspace  # noqa: E402
+from support.edge_cases import COMMANDS, EDGES, EDGES_OF_LISTS, FOUR, GIVEN, PLANS, WORDS  # noqa: E402
 from support.examples import read_examples  # noqa: E402
 from support.machines import random_machines, spoil  # noqa: E402
 from support.program import ROWS, as_lines, options  # noqa: E402
 from support.second_checker import made_claims, tight_claims  # noqa: E402
-from test_plain import COMMANDS, EDGES, EDGES_OF_LISTS, FOUR, GIVEN, PLANS, WORDS  # noqa: E402
 
 CRATES = (
     "bb_machine",

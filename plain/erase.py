@@ -61,7 +61,7 @@ RULES: List[Tuple[str, str, str]] = [
     ("an expectation", r"\.expect\((?=\s*&?rt\b)", ".expect_with("),
     # A step is made by calls that belong into their loop; rustc leaves them outside, at twice the time.
     ("a call to inline", r"#\[inline\]", "#[inline(always)]"),
-    ("a version", r'((?:\.version\(|\()"|"bb )(\d+\.\d+\.\d+)', r"\1\2 (plain)"),
+    ("a version", r'((?:\(|VERSION: &str = )"|"bb )(\d+\.\d+\.\d+)', r"\1\2 (plain)"),
     ("a program's start", r"fn main\((?=rt: HostRuntime\))", "std::main!(start);\n\nfn start("),
 ]
 TEST = re.compile(r"(#\[test\]\s+(?:#\[[^\]]*\]\s+)*fn (\w+)\()(rt: HostRuntime)?\)(\s*->)?")

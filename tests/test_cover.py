@@ -6,8 +6,8 @@ import re
 from typing import Callable, Collection, Sequence
 
 import pytest
-from support.bounds import summarize_bound
 from support.program import LIST_LIMITS, CommandResult, Decide, as_lines, least_time, run_command
+from support.shards import summarize_bound
 
 # States and symbols of whole lists.
 SIZES = [(1, 2), (2, 2), (3, 2), (1, 3), (2, 3), (1, 4), (1, 10)]
@@ -104,6 +104,12 @@ def renumber(lines: list[str], at: int, source: random.Random) -> Changed:
     return [*lines[:at], " ".join(fields), *lines[at + 1 :]], at + 1
 
 
+def require_refused(command: list[str], changed: Changed) -> None:
+    """Require a changed list to be refused at its line."""
+    status, output, error = run_command([*command, *LIST_LIMITS], as_lines(changed[0]))
+    assert (status, error) == (1, b"") and output.startswith(b"line %d: " % changed[1])
+
+
 @pytest.mark.parametrize("change", [leave_out, double, swap, renumber])
 @pytest.mark.parametrize("count", [25, pytest.param(250, marks=pytest.mark.slow)])
 def test_changed_lists_are_refused_at_their_line(
@@ -111,9 +117,7 @@ def test_changed_lists_are_refused_at_their_line(
 ) -> None:
     lines = decide_all(3, 2)
     for _ in range(count):
-        changed, line = change(lines, rng.randrange(len(lines)), rng)
-        status, output, error = run_command([cover, *LIST_LIMITS], as_lines(changed))
-        assert (status, error) == (1, b"") and output.startswith(b"line %d: " % line)
+        require_refused([cover], change(lines, rng.randrange(len(lines)), rng))
 
 
 def test_what_is_wrong_with_a_list_is_named(cover: str, decide_all: Decide) -> None:

@@ -14,6 +14,8 @@ from support.simulation import decide_confirmed
 
 KINDS = {"halt", "cycler", "translated", "backward", "undecided"}
 BATCH = 100
+# How the plain program decides in one run, with keys that make fingerprints agree by chance.
+WEAK = ("--one-run", "--weak-keys")
 CPU_FACTS = pathlib.Path("/proc/cpuinfo")
 
 
@@ -85,16 +87,20 @@ def draw_options(source: random.Random) -> list[str]:
     return [word for limit in options((steps, cells, depth, nodes)) for word in limit.split("=")] + off
 
 
+def decide_alike(bb: str, other: str, given: bytes, words: list[str], *ways: str) -> list[str]:
+    """Require another program to write the same, also where it is told another way to decide; return the lines."""
+    ours = run_command([bb, "decide", *words], given)
+    for more in ([], ways) if ways else ([],):
+        assert ours[:2] == run_command([other, "decide", *words, *more], given)[:2], words
+    return ours.output.decode().splitlines()
+
+
 @pytest.mark.parametrize("count", [2_000, pytest.param(100_000, marks=pytest.mark.slow)])
 def test_plain_program_writes_the_same_bytes(bb: str, peer: str, rng: random.Random, count: int) -> None:
-    """Also where the plain program decides in one run, with keys that make fingerprints agree by chance."""
     kinds: set[str] = set()
     for _ in range(count // BATCH):
-        given, words = as_lines(draw_machine(rng) for _ in range(BATCH)), draw_options(rng)
-        ours, theirs = (run_command([program, "decide", *words], given) for program in (bb, peer))
-        in_one_run = run_command([peer, "decide", *words, "--one-run", "--weak-keys"], given)
-        assert ours[:2] == theirs[:2] == in_one_run[:2], words
-        lines = ours.output.decode().splitlines()
+        given = as_lines(draw_machine(rng) for _ in range(BATCH))
+        lines = decide_alike(bb, peer, given, draw_options(rng), *WEAK)
         assert len(lines) == BATCH
         kinds.update(map(kind_of, lines))
     assert KINDS <= kinds
@@ -108,13 +114,11 @@ def test_plain_program_for_speed_writes_the_same_bytes(
     """Also of lines that are no machines, one of them long, and without a newline at the end."""
     kinds: set[str] = set()
     for _ in range(count // BATCH):
-        lines, words = [draw_small_line(rng) for _ in range(BATCH - 1)], draw_options(rng)
-        given = as_lines([*lines, "1RA1RA" + "x" * 150_000]) + machine(rng, 2, 2).encode()
-        ours, theirs = (run_command([program, "decide", *words], given) for program in (bb, limit))
-        assert ours[:2] == theirs[:2], words
-        written = ours.output.decode().splitlines()
-        assert len(written) == BATCH + 1
-        kinds.update(map(kind_of, written))
+        small = [draw_small_line(rng) for _ in range(BATCH - 1)]
+        given = as_lines([*small, "1RA1RA" + "x" * 150_000]) + machine(rng, 2, 2).encode()
+        lines = decide_alike(bb, limit, given, draw_options(rng))
+        assert len(lines) == BATCH + 1
+        kinds.update(map(kind_of, lines))
     assert KINDS < kinds
     print("%d lines compared" % count)
 
@@ -125,14 +129,11 @@ def test_plain_program_makes_the_same_long_runs(
     """On tapes of more than 64 cells, of machines of four states that few steps don't decide."""
     few = replies([bb, "decide", "--steps", "300", "--cells", "300", "--depth", "20"], four_states)
     machines = rng.sample([line.split()[0] for line in few if kind_of(line) == "undecided"], BATCH)
-    given = as_lines(machines)
     for _ in range(20):
         steps, cells = rng.randint(300, 30_000), rng.choice([65, 127, 200, rng.randint(100, 3_000)])
         words = ["--steps", str(steps), "--cells", str(cells), "--depth", "10"]
         words += [switch for switch in SIMULATION if rng.random() < 0.3]
-        ours, theirs = (run_command([program, "decide", *words], given) for program in (bb, peer))
-        in_one_run = run_command([peer, "decide", *words, "--one-run", "--weak-keys"], given)
-        assert ours[:2] == theirs[:2] == in_one_run[:2], words
+        decide_alike(bb, peer, as_lines(machines), words, *WEAK)
     print("%d lines compared" % (20 * len(machines)))
 
 

@@ -13,9 +13,6 @@ from support.machines import all_machines, seldom_halting
 from support.program import decide_machines
 from support.simulation import compare_lines, simulate
 
-# A machine of two states and two symbols whose first cycle is found latest.
-LATEST = "1LB1RB_1RA1LA"
-
 
 def derive_verdict(machine: str, steps: int, cells: int) -> str:
     """Derive the verdict of simulation and cyclers alone from the definitions."""
@@ -32,17 +29,6 @@ def derive_verdict(machine: str, steps: int, cells: int) -> str:
             return "cycler %d %d" % (partner, step)
         seen.append(here)
     return "halt %d %d" % (len(seen) - 1, score)
-
-
-@pytest.mark.parametrize(
-    "options, verdict",
-    [
-        (["--steps=10", "--cells=4", "--depth=2"], "cycler 8 10"),
-        (["--steps=9", "--cells=4", "--depth=2", "--no-backward"], "undecided steps"),
-    ],
-)
-def test_latest_cycle_needs_its_steps(bb: str, options: list[str], verdict: str) -> None:
-    assert decide_machines(bb, [LATEST], *options) == [verdict]
 
 
 @pytest.mark.parametrize(

@@ -1,6 +1,5 @@
 """The library for other languages and its examples, against the program: the proved one, and cargo's."""
 
-import itertools
 import os
 import pathlib
 import re
@@ -8,7 +7,6 @@ import subprocess
 import sys
 from typing import Callable
 
-import budlarem
 import pytest
 from support import TOP, ListMachines, build, require
 from support.program import as_lines, replies, run_command, unaligned_branches
@@ -18,18 +16,7 @@ from support.traces import trace
 LIMITS = ["--steps", "1000", "--cells", "200", "--depth", "60"]
 SMALL = ["--steps", "1000", "--cells", "64", "--depth", "30", "--nodes", "1000"]
 MACHINES = ["1RB1LB_1LA1RZ", "1RA1RA", "1rB1LB", "", "0RB---_0LA---"]
-CLAIMS = """1RB1LB_1LA1RZ halt 6 4
-1RB1LB_1LA1RZ halt 6 5
-1RA1RA translated R 18446744073709551615 1
-1RA1RA cycler 1 65536
-1RZ--- backward 1 2
------- halt 00 0
-1RA1RA undecided cells
-refused 14
-
-0RB---_0LA--- backward 2 4
-""".splitlines()
-CALLS = "bb_check bb_check_cost bb_check_line bb_decide bb_decide_line bb_look bb_recurrence bb_trace".split()
+CALLS = "bb_check bb_check_cost bb_check_line bb_decide bb_decide_line bb_line_of bb_look bb_recurrence bb_trace".split()
 C, CPP = ["gcc", "-std=c99"], ["g++", "-x", "c++"]
 C_WORDS = ["-Wall", "-Wextra", "-Werror", "-O2", "-pthread", "-I", str(TOP / "include")]
 VALGRIND = ["valgrind", "-q", "--error-exitcode=9", "--leak-check=full"]
@@ -67,13 +54,6 @@ def compile_source(library: pathlib.Path, tmp_path: pathlib.Path) -> Compile:
 def machines(list_machines: ListMachines) -> list[str]:
     """The first 100,000 machines of four states in tree normal form."""
     return list_machines(4)[:100_000]
-
-
-@pytest.fixture
-def limits(library: pathlib.Path, monkeypatch: pytest.MonkeyPatch) -> budlarem.Limits:
-    """The limits of the calls from Python, over the library that is built here."""
-    monkeypatch.setenv("BB_LIBRARY", str(library))
-    return budlarem.Limits(steps=1000, cells=200, depth=60)
 
 
 @pytest.mark.needs("nm")
@@ -164,36 +144,3 @@ def test_example_in_python(library: pathlib.Path) -> None:
     command = [sys.executable, str(TOP / "examples" / "python" / "list.py")]
     output = run_command(command, b"1RZ---\nx\n", env=environment).output
     assert output == b"ok 1RZ--- halt 1 1\nopen refused 1\n"
-
-
-def test_package_decides_and_checks(bb: str, limits: budlarem.Limits, machines: list[str]) -> None:
-    verdicts = replies([bb, "decide", *LIMITS], machines)
-    assert len(verdicts) == 100_000
-    compare_lines("verdicts", [str(verdict) for verdict in budlarem.decide(machines, limits)], verdicts)
-    for lines in (CLAIMS, verdicts):
-        expected = replies([bb, "check", *LIMITS], lines)
-        compare_lines("answers", [str(answer) for answer in budlarem.check(lines, limits)], expected, lines)
-
-
-@pytest.mark.parametrize("cells", [200, 5])
-@pytest.mark.parametrize("count", [5, pytest.param(100, marks=pytest.mark.slow)])
-@pytest.mark.usefixtures("limits")
-def test_package_traces(bb: str, machines: list[str], cells: int, count: int) -> None:
-    """At every first step and every distance up to 50."""
-    for machine in machines[:: len(machines) // count]:
-        whole = [row.program_line for row in trace(bb, machine, 120, cells)]
-        for start, every in itertools.product(range(51), range(1, 51)):
-            found = [str(now) for now in budlarem.trace(machine, 120, cells, start, every)]
-            assert found == whole[start::every], (machine, start, every)
-
-
-@pytest.mark.usefixtures("limits")
-def test_package_traces_a_long_run(bb: str) -> None:
-    expected = [row.program_line for row in trace(bb, MACHINES[1], 3000)]
-    assert [str(now) for now in budlarem.trace(MACHINES[1], 3000)] == expected
-
-
-@pytest.mark.usefixtures("limits")
-def test_package_refuses_to_trace_no_machine() -> None:
-    with pytest.raises(budlarem.MachineError):
-        next(budlarem.trace("1RZ", 9, start=2**64 - 1))

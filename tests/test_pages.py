@@ -1,5 +1,7 @@
 """Each block of the first pages, in a clone without the kit: it does as the page says, or one sentence tells what would.
 
+`test_recipes.py` runs those of the recipes.
+
 With Debian's crates the clone has the programs and the library that cargo built. Without them, and without a
 network, each block ends with the sentence that names them.
 """
@@ -15,18 +17,13 @@ from support.pages import read_blocks
 from support.repository import Done, Repository, repository_without_kit
 from support.shards import skeleton_of
 
-PAGES = ("README.md", "docs/plain.md", "docs/cover.md", "docs/recurrence.md", "docs/recipes.md")
+PAGES = ("README.md", "docs/plain.md", "docs/cover.md", "docs/recurrence.md")
 # The usage of a program, and lines that are shown alone.
 NO_COMMANDS = re.compile(r"\w+ (?:\w+ )?\[--|[0-9A-Z-]{3,}_")
-# Blocks that need more than one computer, by a word of theirs, or a program that may be missing.
-ELSEWHERE = ("scp ",)
-MAYBE_MISSING = ("parallel",)
 GIVEN = {
     "list.txt": "1RB1LB_1LB1LA\n",
     "machines.txt": "1RB1LB_1LA1RZ\n1RA1RA\n0RB---_0LA---\n1RB1LC_1RC1RB_1RD0LE_1LA1LD_1RZ0LA\n",
-    "theirs.txt": "1LB1RB_1RA1LZ halt 6 4\n",
 }
-PACKAGE = '#!/bin/sh\nexport PYTHONPATH="%s/python/src"\nexec /usr/bin/python3 -m budlarem "$@"\n'
 SENTENCE = re.compile(r"build: cargo can't download its crates \(.*\); without a network install Debian's .*")
 WAITS = "waiting for another process that builds out/plain"
 
@@ -36,9 +33,7 @@ pytestmark = pytest.mark.needs("cargo", "rustc", "make", "cc")
 def clone(folder: pathlib.Path) -> Repository:
     """Copy the files of this repository, with their times, to where commands don't find the kit."""
     files = " ".join(list_files("--cached", "--others", "--exclude-standard"))
-    made = repository_without_kit(folder, files)
-    made.add_program("budlarem", PACKAGE % made.top)
-    return made
+    return repository_without_kit(folder, files)
 
 
 @pytest.fixture(scope="module")
@@ -71,24 +66,18 @@ def commands(page: str) -> Iterator[tuple[str, str, str]]:
                 yield heading, "\n".join(prompts) or block, "".join(line + "\n" for line in shown)
 
 
-def begin_section(repository: Repository, page: str, heading: str) -> str:
-    """Leave only the files that a section needs; return the commands that a reader gave before."""
+def begin_section(repository: Repository) -> None:
+    """Leave only the files that a section needs."""
     kept = {name.split("/")[0] for name in list_files("--cached", "--others")} | {"out"}
     for path in repository.top.iterdir():
         if path.name not in kept:
             shutil.rmtree(path) if path.is_dir() else path.unlink()
     for name, text in GIVEN.items():
         repository.write(name, text)
-    is_recipe = page == "docs/recipes.md"
-    first = next(commands(page))[1] + "\n" if is_recipe else ""
-    before = "budlarem run machines.txt --out decided" if heading == "Publish a decided list" else ""
-    repository.run(first + "./bb decide machines.txt > verdicts.txt\n" + before)
-    return first
+    repository.run("./bb decide machines.txt > verdicts.txt")
 
 
 def run(repository: Repository, script: str) -> Done:
-    if script.lstrip().startswith("import "):
-        return repository.run("PYTHONPATH=python/src exec /usr/bin/python3 - <<'END'\n%s\nEND" % script)
     return repository.run("set -e\n" + script)
 
 
@@ -99,17 +88,14 @@ def test_pages_have_blocks() -> None:
 
 @pytest.mark.parametrize("page", PAGES)
 def test_blocks_do_as_the_page_says(built: Repository, page: str) -> None:
-    last, first = "", ""
+    last = ""
     for heading, script, shown in commands(page):
-        if any(word in script for word in ELSEWHERE):
-            continue
-        if any(word in script and not shutil.which(word) for word in MAYBE_MISSING):
-            continue
-        first = first if heading == last else begin_section(built, page, heading)
+        if heading != last:
+            begin_section(built)
         last = heading
         if "skeleton.txt" in script:
             write_skeleton(built)
-        done = run(built, script if "import" in script else first + script)
+        done = run(built, script)
         assert done.returncode == 0, (script, done.stderr)
         assert not re.search("not found|Traceback|No such file", done.stderr), (script, done.stderr)
         assert shown in done.stdout, script
@@ -124,9 +110,7 @@ def write_skeleton(repository: Repository) -> None:
 
 
 def test_blocks_name_what_is_missing(unbuilt: Repository) -> None:
-    """A reader of the recipes gives the first one first, so that one ends each."""
-    found = {page: [script for _, script, _ in commands(page)] for page in PAGES}
-    for script in [*(script for page in PAGES[:-1] for script in found[page]), found[PAGES[-1]][0]]:
+    for script in [script for page in PAGES for _, script, _ in commands(page)]:
         done = run(unbuilt, script)
         lines = set(done.stderr.splitlines()) - {WAITS}
         assert done.returncode == 3 and len(lines) == 1, (script, done.stderr)

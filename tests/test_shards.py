@@ -7,12 +7,9 @@ from typing import Callable, NamedTuple
 
 import pytest
 from support import ListMachines
-from support.bounds import greatest_halt, summarize_bound
-from support.program import LIST_LIMITS, LIST_STEPS, CommandResult, Decide, as_lines, replies
-from support.bounds import greatest_halt, summarize_bound
-from support.program import run_command
-from support.shards import shard_line
-from test_cover import Change, Changed, double, leave_out, swap
+from support.program import LIST_LIMITS, LIST_STEPS, CommandResult, Decide, as_lines, replies, run_command
+from support.shards import greatest_halt, shard_line, summarize_bound
+from test_cover import Change, Changed, double, leave_out, require_refused, swap
 
 
 class Sharded(NamedTuple):
@@ -118,9 +115,7 @@ def test_changed_skeletons_are_refused_at_their_line(
 ) -> None:
     lines = shard(3, 2, 2).skeleton
     for at in range(len(lines)):
-        changed, line = change(lines, at, rng)
-        status, output, error = run_command([cover, "--skeleton", *LIST_LIMITS], as_lines(changed))
-        assert (status, error) == (1, b"") and output.startswith(b"line %d: " % line)
+        require_refused([cover, "--skeleton"], change(lines, at, rng))
 
 
 def test_cut_and_misspelt_shards_are_no_lines(cover: str, shard: Shard) -> None:
@@ -152,9 +147,8 @@ def test_a_shard_without_one_of_its_lines_is_refused(
     made = shard(4, 2, 4) if count > 100 else shard(3, 2, 2)
     machines = [machine for machine, lines in made.shards.items() for _ in lines]
     for machine in rng.choices(machines, k=count):
-        changed, line = leave_out(made.shards[machine], rng.randrange(len(made.shards[machine])), rng)
-        status, output, error = run_command([cover, "--below", machine, *LIST_LIMITS], as_lines(changed))
-        assert (status, error) == (1, b"") and output.startswith(b"line %d: " % line)
+        lines = made.shards[machine]
+        require_refused([cover, "--below", machine], leave_out(lines, rng.randrange(len(lines)), rng))
 
 
 @pytest.mark.slow
@@ -168,9 +162,7 @@ def test_shards_of_five_states_without_one_of_their_lines(
         machines = list_machines(5, "--steps", str(LIST_STEPS), "--below", machine)
         lines = replies([bb, "decide", *LIST_LIMITS], machines)
         assert run_command([cover, "--below", machine, *LIST_LIMITS], as_lines(lines)).status == 0
-        changed, line = leave_out(lines, rng.randrange(len(lines)), rng)
-        status, output, error = run_command([cover, "--below", machine, *LIST_LIMITS], as_lines(changed))
-        assert (status, error) == (1, b"") and output.startswith(b"line %d: " % line)
+        require_refused([cover, "--below", machine], leave_out(lines, rng.randrange(len(lines)), rng))
 
 
 def test_shard_of_another_machine_is_refused(cover: str, shard: Shard) -> None:

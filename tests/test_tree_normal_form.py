@@ -16,13 +16,15 @@ from typing import Iterator
 import pytest
 from support import TOP, ListMachines, require
 from support.machines import LETTERS, join_groups
-from support.program import run_command
+from support.program import as_lines, run_command
 from support.simulation import simulate
 
 COUNTS = {1: 3, 2: 61, 3: 5_417, 4: 858_909}
 FIVE_STATES = 181_385_789
 LONGEST = {1: "------", 2: "1RB1LB_1LA---", 3: "1RB---_1LB0RC_1LC1LA", 4: "1RB1LB_1LA0LC_---1LD_1RD0RA"}
 REFUSED = {
+    "--line 1RB---_------ --every 2": "--line goes with --steps alone",
+    "--line 1RZ---": "--line is 1RZ---, but must be a machine without Z",
     "": "--states isn't given",
     "--states": "--states has no value",
     "--states 0": "--states is 0, but must be a whole number from 1 to 25",
@@ -129,9 +131,13 @@ def test_wrong_words_are_refused(lister: str, words: str) -> None:
     assert error.startswith(b"tree_normal_form: " + REFUSED[words].encode())
 
 
-def test_help(lister: str) -> None:
-    status, output, error = run_command([lister, "--states", "4", "--help"])
-    assert (status, error) == (0, b"") and output
+def test_place_of_a_machine(lister: str, list_machines: ListMachines) -> None:
+    listed = list_machines(3)
+    for place in (0, 1, 2_000, len(listed) - 1):
+        done = run_command([lister, "--line", listed[place]])
+        assert (done.status, done.output) == (0, as_lines(["line %d of %d" % (place + 1, len(listed))]))
+    done = run_command([lister, "--line", "1LB---_------"])
+    assert (done.status, done.output) == (1, b"") and b"isn't among the 61 machines" in done.error
 
 
 def test_closed_pipe_and_full_disk(lister: str) -> None:

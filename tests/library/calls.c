@@ -211,6 +211,19 @@ static void require_recurrences(void) {
     REQUIRE(refused(bb_recurrence(1000, 0, false, bytes(PAIRS), strlen(PAIRS), out, ROOM, &count)));
 }
 
+static void require_machine_lines(void) {
+    static const char MACHINES[] = "1LA1RB_1LB0RA\n1RZ---\n1RB2LB\n";
+    static const char LINES[] = "1LA1RB_1LB0RA line 1RA---_------ mirror AB 01 runs\n"
+                                "1RZ--- line ------ same A 01 halt 0 0 1RZ\nunread\n";
+    reset();
+    REQUIRE(wrote(bb_line_of(1000, 64, bytes(MACHINES), strlen(MACHINES), out, ROOM, &count), BB_CLEAN, LINES));
+    reset();
+    uint32_t status = bb_line_of(1000, 64, bytes(MACHINES), strlen(MACHINES), out, strlen(LINES) - 1, &count);
+    REQUIRE(status == BB_SHORT && count == strlen(LINES));
+    reset();
+    REQUIRE(refused(bb_line_of(1000, 0, bytes(MACHINES), strlen(MACHINES), out, ROOM, &count)));
+}
+
 static void *decide_often(void *wrong) {
     for (int at = 0; at < 20; at++) {
         if (!wrote(decide(LIST, ROOM), BB_NOT_CLEAN, VERDICTS)) *(bool *)wrong = true;
@@ -233,6 +246,7 @@ int main(void) {
     require_lists();
     require_lines();
     require_traces();
+    require_machine_lines();
     require_limits();
     require_looks();
     require_costs();

@@ -1,26 +1,21 @@
 """The engine as WebAssembly in a process of Node."""
 
 import contextlib
-import itertools
 import json
 import pathlib
 import subprocess
 from typing import Any, NamedTuple
 
 from . import TOP
+from .pages import read_blocks
 from .program import run_command, words_of_plan
 
 MODULE = TOP / "web" / "out" / "bb.wasm"
 
 
 def documented_script(heading: str) -> str:
-    """Return the script, or the only block of code, below a heading of docs/web.md."""
-    text = (TOP / "docs" / "web.md").read_text(encoding="utf-8")
-    part = text.split("\n## %s\n" % heading)[1].split("\n## ")[0]
-    begin = part.find("\n    import")
-    lines = part[max(begin, part.index("\n    ")) + 1 :].split("\n")
-    block = itertools.takewhile(lambda line: line.startswith("    ") or not line, lines)
-    return "".join(line[4:] + "\n" for line in block).strip("\n") + "\n"
+    """Return the script, which is the last block of code, below a heading of docs/web.md."""
+    return read_blocks("docs/web.md")[heading][-1] + "\n"
 
 
 class CallResult(NamedTuple):

@@ -8,6 +8,7 @@ import subprocess
 import pytest
 
 from . import TOP
+from .program import write_script
 
 Done = subprocess.CompletedProcess[str]
 
@@ -35,11 +36,8 @@ class Repository:
         path.write_text(path.read_text().replace(old, new))
 
     def add_program(self, name: str, script: str) -> None:
-        """Put a script among the programs, in the place of one that is there."""
-        path = self.bin / name
-        path.unlink(missing_ok=True)
-        path.write_text(script)
-        path.chmod(0o755)
+        """Put a script of the shell among the programs, in the place of one that is there."""
+        write_script(self.bin / name, script)
 
     def start(self, command: str, **environment: str) -> "subprocess.Popen[str]":
         """Start a command of a shell at the top."""

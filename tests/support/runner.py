@@ -113,7 +113,7 @@ class RunCase(contextlib.ExitStack):
         path: str = "",
         here: bool = False,
         keep: chunks.Retention = chunks.Retention(),
-    ) -> passes.Outcome:
+    ) -> pass_folder.Outcome:
         """A run, by an executor or by two threads."""
         backend: backends.Backend = backends.ThreadBackend(2)
         if executor is not None:

@@ -22,11 +22,6 @@ class Row(NamedTuple):
         """The line of a trace by the library or the module, which has the lowest position too."""
         return "%d %s %d %d %s" % self
 
-    @property
-    def program_line(self) -> str:
-        """The line of a trace by the program or the package."""
-        return "%d %s %d %s" % (self.step, self.state, self.head, self.cells)
-
     def read(self, position: int) -> int:
         """Return the symbol read at a position."""
         symbol = self.symbol(position)
