@@ -50,7 +50,7 @@ $(foreach line,$(lines),$(eval $(call crate_rule,$(firstword $(subst :, ,$(line)
 .PHONY: bb cover recurrence lister
 bb: crates/bb/out/proved ## prove and build the program, crates/bb/out/bb
 cover: crates/cover/out/proved ## prove and build the program that checks whether a list is complete
-recurrence: crates/recurrence/out/proved ## prove and build the program that finds exact repetitions
+recurrence: crates/recurrence/out/proved ## prove and build the program that finds exact recurrences
 lister: tools/out/tree_normal_form ## build the program that lists machines in tree normal form
 
 tools/out/tree_normal_form: tools/tree_normal_form.rs
@@ -140,16 +140,16 @@ coq: ## build the second checkers and their proofs by Coq, coq/out/checker and c
 coq-check: ## let coqchk look at the second checker's proofs too
 	@MAKEFLAGS='$(MAKEFLAGS)' $(MAKE) --no-print-directory -C coq check
 
-## Whole lists
+## Complete lists
 
 programs := $(if $(kit),bb cover recurrence library,plain plain-library)
 
-.PHONY: whole-lists
-whole-lists: lister $(programs) ## decide all machines of eight sizes, some 50 minutes on four cores; fill docs/whole-lists.md
-	tools/whole_lists --sample 6x2
-	tools/whole_lists --sample 4x3
-	tools/whole_lists
-	tools/whole_lists --page
+.PHONY: complete-lists
+complete-lists: lister $(programs) ## decide all machines of eight sizes, some 50 minutes on four cores; fill docs/complete-lists.md
+	tools/complete_lists --sample 6x2
+	tools/complete_lists --sample 4x3
+	tools/complete_lists
+	tools/complete_lists --page
 
 four := coq/out/four
 .PHONY: coq-four-states

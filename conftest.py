@@ -70,7 +70,7 @@ def program(name: str) -> Callable[..., str]:
     return path
 
 
-# The program, that which checks whether a list is complete, and that which finds exact repetitions.
+# The program, that which checks whether a list is complete, and that which finds exact recurrences.
 bb, cover, recurrence = map(program, ("bb", "cover", "recurrence"))
 
 
@@ -135,13 +135,13 @@ def checker() -> str:
 
 @pytest.fixture(scope="session")
 def coq_cover(checker: str) -> str:
-    """The path of the second checker of whole lists, which Coq extracts too."""
+    """The path of the second checker of complete lists, which Coq extracts too."""
     return str(pathlib.Path(checker).with_name("cover"))
 
 
 @pytest.fixture(scope="session")
 def coq_recurrence(checker: str) -> str:
-    """The path of the second checker of exact repetition, which Coq extracts too."""
+    """The path of the second checker of exact recurrence, which Coq extracts too."""
     return str(pathlib.Path(checker).with_name("recurrence"))
 
 
@@ -165,7 +165,7 @@ def list_machines(lister: str) -> ListMachines:
 
 @pytest.fixture(scope="session")
 def decide_all(bb: str, list_machines: ListMachines) -> Callable[[int, int], list[str]]:
-    """A function that returns the verdict lines of the whole list of so many states and symbols."""
+    """A function that returns the verdict lines of the complete list of so many states and symbols."""
 
     @functools.lru_cache(maxsize=None)
     def decide(states: int, symbols: int) -> list[str]:

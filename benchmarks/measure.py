@@ -6,7 +6,7 @@
 It builds the two by `rustc -O` (1.65 or later): `peer`, written as one would by hand, and `limit`, written for
 speed alone, with the program's layout of code, for x86-64 with AVX2 and BMI2. It makes its lists from a seed,
 requires that all write the same bytes and end with the same status, runs them in turn, and prints the least times
-and their ratios, of a search the spread of single runs too. The peer has two forms: in one run, and in turn. The
+and their ratios, of a search the spread of single runs too. The peer has two forms: in a single pass, and in turn. The
 lists of deciding are run 2 N - 1 times. The part `limit` has the bars beside `limit`, `around` those of
 `budlarem run` and of the module in Node. The instructions are those that `valgrind --tool=callgrind` counts, which
 other work on the machine doesn't change. The part `plain` compares the program that `make plain` builds on the
@@ -39,7 +39,7 @@ LIST, DRAWN, HALTING_LIST, REFUSED_BYTES = 100_000, 800_000, 1_000_000, 50_000_0
 TREES, CHECKED, RANDOM, KINDS, OPEN_LONG = 4_000, 2_000, 10_000, 3_000, 300
 # What the module in Node may take, beside `limit`: 0.6 of what it took on 30 November 2026.
 NODE_BAR = 2.9
-COLUMNS = ["Program", "Peer in one run", "Ratio", "benchmarks/limit", "Ratio", "At most"]
+COLUMNS = ["Program", "Peer in a single pass", "Ratio", "benchmarks/limit", "Ratio", "At most"]
 # What the build by cargo may take, beside the proved one.
 PLAIN_BAR = 1.25
 THREE_SYMBOLS = "random, three to five states, three symbols"
@@ -103,8 +103,8 @@ def cases_in_turn(seed: int) -> list[Case]:
     ]
 
 
-def cases_in_one_run(program: str, source: random.Random) -> list[Case]:
-    """Return what measures deciding in one run."""
+def cases_in_single_pass(program: str, source: random.Random) -> list[Case]:
+    """Return what measures deciding in a single pass."""
     four = list_machines(4).decode()
     limits = [*LIMITS, "--nodes", "2000"]
     left = undecided_machines(program, limits, four).splitlines(keepends=True)
@@ -189,7 +189,7 @@ def instructions_a_step(program: str, *form: str) -> str:
         "simulation": SIMULATION,
         "cyclers alone": ["--no-translated", "--no-backward"],
         "translated alone": ["--no-cyclers", "--no-backward"],
-        "both in one run": ["--no-backward"],
+        "both in a single pass": ["--no-backward"],
     }
     figures = []
     for what, options in plans.items():
@@ -235,7 +235,7 @@ def measure_limit(bench: Bench, seed: int) -> None:
     for case, units, bar in bars(seed):
         words, is_two = ["decide", *case.options], case.name != THREE_SYMBOLS
         peer = bench.peer if is_two else peer_of_many_symbols
-        commands = [[bench.program, *words], [peer, *words, "--one-run"], *([[bench.limit, *words]] * is_two)]
+        commands = [[bench.program, *words], [peer, *words, "--single-pass"], *([[bench.limit, *words]] * is_two)]
         costs = bench.costs(case.lines, commands, True, 2 * bench.table.runs - 1)
         ours, *others = (1e9 * min(cost.processor for cost in row) / units for row in costs)
         bench.table.beside(case.name, ours, [*others, *([None] * (not is_two))], bar)
@@ -280,12 +280,12 @@ def measure_peer(bench: Bench, seed: int) -> None:
         commands = [[each, "decide", *case.options] for each in (program, peer, limit)]
         ours, *theirs = (min(row).clock for row in bench.costs(case.lines, commands, True))
         table.times(case.name, ours, theirs)
-    decided = cases_in_one_run(program, random.Random(seed))
-    columns = ["Program", "Peer in one run", "Ratio", "Peer in turn", "Ratio", "benchmarks/limit", "Ratio"]
+    decided = cases_in_single_pass(program, random.Random(seed))
+    columns = ["Program", "Peer in a single pass", "Ratio", "Peer in turn", "Ratio", "benchmarks/limit", "Ratio"]
     table.head("Deciding beside plain Rust, in processor time", columns)
     for case in decided:
         words = ["decide", *case.options]
-        commands = [[program, *words], [peer, *words, "--one-run"], [peer, *words], [limit, *words]]
+        commands = [[program, *words], [peer, *words, "--single-pass"], [peer, *words], [limit, *words]]
         costs = bench.costs(case.lines, commands, True, 2 * table.runs - 1)
         ours, *theirs = (min(cost.processor for cost in row) for row in costs)
         table.times(case.name, ours, theirs)
@@ -297,7 +297,7 @@ def measure_peer(bench: Bench, seed: int) -> None:
     if has("instructions", "valgrind"):
         forms = {
             "the program": [program],
-            "the peer in one run": [peer, "--one-run"],
+            "the peer in a single pass": [peer, "--single-pass"],
             "benchmarks/limit": [limit],
         }
         counted = "".join(decided[0].lines.splitlines(keepends=True)[::COUNTED])
@@ -340,7 +340,7 @@ def measure_plain(bench: Bench, seed: int) -> None:
     table.head("The build by cargo beside the proved one, in processor time")
     verdicts = 100 * verdicts_of(program, draw(halting_once, random.Random(seed), CHECKED, 5))
     checking = Case("checking %d lines of machines of five states" % verdicts.count("\n"), [], verdicts)
-    cases = [*cases_in_turn(seed), *cases_in_one_run(program, random.Random(seed))]
+    cases = [*cases_in_turn(seed), *cases_in_single_pass(program, random.Random(seed))]
     cases += searches(program, random.Random(seed))
     for word, case in [*(("decide", case) for case in cases), ("check", checking)]:
         commands = [[each, word, *case.options] for each in (built, program)]

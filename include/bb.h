@@ -1,11 +1,11 @@
-/* Verdicts on small Turing machines, answers to verdicts, exact repetitions, lines of machines, traces, and looks
+/* Verdicts on small Turing machines, answers to verdicts, exact recurrences, lines of machines, traces, and looks
  * at replies, as calls.
  *
  * The lines are those of the program `bb`, which README.md describes. docs/library.md says how to build and
  * link this, and what is proved of it.
  *
  * Limits. `steps`: of one simulation, 0 to 1,000,000,000,000. `cells`: of one tape, 1 to 67,108,864; a call
- * that decides or finds repetitions makes three tapes of as many bytes, one that checks two, one that traces or
+ * that decides or finds recurrences makes three tapes of as many bytes, one that checks two, one that traces or
  * finds lines one. `depth`: levels of the backward tree, 0 to 10,000. `nodes`: of that tree, 0 to 1,000,000,000,000. 2 * depth - 1 must be at
  * most `cells`.
  *
@@ -119,10 +119,10 @@ uint32_t bb_trace(uint64_t steps, uint64_t cells, uint64_t from, uint64_t every,
 uint32_t bb_check_cost(uint64_t steps, uint64_t cells, uint64_t depth, uint64_t nodes, const uint8_t *list,
                        size_t list_len, uint64_t cost[4]);
 
-/* The exact repetition of each pair of a list of verdict lines, each with a newline: the line of the program
+/* The exact recurrence of each pair of a list of verdict lines, each with a newline: the line of the program
  * `recurrence`, `<machine> recurs <start> <period> <shift> <use of A> ..`, with the last use of each entry if
  * `entries`; the answer to a pair that doesn't hold, `open` for a line without a pair, `unread` for no verdict line.
- * The status is BB_CLEAN if each reply is a repetition or `open`. */
+ * The status is BB_CLEAN if each reply is a recurrence or `open`. */
 uint32_t bb_recurrence(uint64_t steps, uint64_t cells, bool entries, const uint8_t *list, size_t list_len,
                        uint8_t *out, size_t out_len, size_t *count);
 

@@ -37,13 +37,13 @@ from support.second_checker import made_claims, tight_claims  # noqa: E402
 CRATES = (
     "bb_machine",
     "bb_sim",
-    "bb_narrow",
+    "bb_registers",
     "bb_tree",
     "bb_cert",
     "bb_decide",
     "bb_lines",
     "bb_run",
-    "bb_repetition",
+    "bb_recurrence",
 )
 PROGRAMS = ("bb", "cover", "recurrence")
 BUILT = ("build", *(word for name in PROGRAMS for word in ("-p", name)))

@@ -1,4 +1,4 @@
-"""`cover` over whole lists, and over lists with a line left out, doubled, swapped or changed."""
+"""`cover` over complete lists, and over lists with a line left out, doubled, swapped or changed."""
 
 import pathlib
 import random
@@ -9,7 +9,7 @@ import pytest
 from support.program import LIST_LIMITS, CommandResult, Decide, as_lines, least_time, run_command
 from support.shards import summarize_bound
 
-# States and symbols of whole lists.
+# States and symbols of complete lists.
 SIZES = [(1, 2), (2, 2), (3, 2), (1, 3), (2, 3), (1, 4), (1, 10)]
 LARGE = [pytest.param(*size, marks=pytest.mark.slow) for size in [(2, 4), (4, 2)]]
 # Counts of a shard that no walk has, the most lines of a list, and a digest.
@@ -23,7 +23,7 @@ Change = Callable[[list[str], int, random.Random], Changed]
 
 
 def summarize(states: int, symbols: int, lines: Sequence[str], assumed: Collection[str] = ()) -> str:
-    """Return the line that `cover` prints for a whole list, if some machines are assumed never to halt."""
+    """Return the line that `cover` prints for a complete list, if some machines are assumed never to halt."""
     undecided = [line for line in lines if " undecided " in line]
     wide = sum(line.count("---") > 1 for line in undecided)
     size = "%d %s %d symbols" % (states, "state" if states == 1 else "states", symbols)
@@ -33,7 +33,7 @@ def summarize(states: int, symbols: int, lines: Sequence[str], assumed: Collecti
 
 
 @pytest.mark.parametrize("states, symbols", [*SIZES, *LARGE])
-def test_whole_lists_cover_their_sizes(cover: str, decide_all: Decide, states: int, symbols: int) -> None:
+def test_complete_lists_cover_their_sizes(cover: str, decide_all: Decide, states: int, symbols: int) -> None:
     lines = decide_all(states, symbols)
     assert lines
     expected = CommandResult(0, summarize(states, symbols, lines).encode(), b"")

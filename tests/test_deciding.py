@@ -15,7 +15,7 @@ from support.simulation import decide_confirmed
 KINDS = {"halt", "cycler", "translated", "backward", "undecided"}
 BATCH = 100
 # How the plain program decides in one run, with keys that make fingerprints agree by chance.
-WEAK = ("--one-run", "--weak-keys")
+WEAK = ("--single-pass", "--weak-keys")
 CPU_FACTS = pathlib.Path("/proc/cpuinfo")
 
 

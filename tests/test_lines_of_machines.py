@@ -1,4 +1,4 @@
-"""`cover --lines`: each machine's line is in the whole list of its size, and its verdict is the machine's."""
+"""`cover --lines`: each machine's line is in the complete list of its size, and its verdict is the machine's."""
 
 import random
 import subprocess
@@ -9,7 +9,7 @@ from support import ListMachines
 from support.machines import CHAMPION, DIGITS, LETTERS, Change, machine, table_of, text_of
 from support.program import LIST_STEPS, Decide, as_lines, run_command
 
-# States and symbols of whole lists.
+# States and symbols of complete lists.
 SIZES = [(2, 2), (3, 2), (2, 3)]
 LARGE = [pytest.param(4, 2, marks=pytest.mark.slow)]
 COUNT = 5_000

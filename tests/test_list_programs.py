@@ -12,7 +12,7 @@ import pytest
 from support import TOP
 from support.program import on_terminal, run_command
 
-# The verdict lines of a whole list of one state.
+# The verdict lines of a complete list of one state.
 VERDICTS = b"------ halt 0 0\n0RA--- translated R 1 2 1 1\n1RA--- translated R 1 2 1 1\n"
 PROGRESS = {"cover": r"\d+ lines", "recurrence": r"\d+ recur, \d+ quasihalt, \d+ open"}
 

@@ -9,7 +9,7 @@
 //! `--cfg wide` it reads all that the program reads, and is slower.
 //!
 //! It decides in one of two forms, which write the same bytes. The first simulates to the limits, then
-//! searches for cycles, then for records that agree. The second, asked for by `--one-run`, watches one
+//! searches for cycles, then for records that agree. The second, asked for by `--single-pass`, watches one
 //! run for a halt, for records, and for the agreement of a fingerprint of the tape: only after that does it
 //! search for cycles, and where it finds none, for records. `--weak-keys` makes the fingerprint the sum of
 //! the cells, so that it often agrees by chance.
@@ -76,7 +76,7 @@ struct Limits {
     cyclers: bool,
     translated: bool,
     backward: bool,
-    one_run: bool,
+    single_pass: bool,
     weak_keys: bool,
 }
 
@@ -89,7 +89,7 @@ fn limits() -> Option<Limits> {
         cyclers: true,
         translated: true,
         backward: true,
-        one_run: false,
+        single_pass: false,
         weak_keys: false,
     };
     let mut words = env::args().skip(1);
@@ -102,7 +102,7 @@ fn limits() -> Option<Limits> {
             "--no-cyclers" => limits.cyclers = false,
             "--no-translated" => limits.translated = false,
             "--no-backward" => limits.backward = false,
-            "--one-run" => limits.one_run = true,
+            "--single-pass" => limits.single_pass = true,
             "--weak-keys" => limits.weak_keys = true,
             "decide" => {}
             _ => return None,
@@ -161,7 +161,7 @@ impl Room {
     }
 
     /// The same verdict, of one run where the fingerprint agrees with none of before.
-    fn in_one_run(&mut self, machine: &Machine, limits: &Limits) -> Verdict {
+    fn in_single_pass(&mut self, machine: &Machine, limits: &Limits) -> Verdict {
         match (limits.cyclers, limits.translated) {
             (false, false) => self.tape.run(machine, limits.steps, &mut self.counts).into(),
             (true, false) => self.cycle(machine, limits),
@@ -196,8 +196,8 @@ impl Room {
 
     /// The verdict of the deciders, the tree last.
     fn verdict(&mut self, machine: &Machine, limits: &Limits) -> Verdict {
-        let verdict = if limits.one_run {
-            self.in_one_run(machine, limits)
+        let verdict = if limits.single_pass {
+            self.in_single_pass(machine, limits)
         } else {
             self.in_turn(machine, limits)
         };

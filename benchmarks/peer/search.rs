@@ -1,4 +1,4 @@
-//! The searches for cycles and for records that agree, each alone and both in one run.
+//! The searches for cycles and for records that agree, each alone and both in a single pass.
 
 use crate::Verdict;
 use crate::machine::{Machine, Next};

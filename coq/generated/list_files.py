@@ -320,7 +320,7 @@ def settle_term(job: Job) -> str:
 
 
 def end_text(job: Job, undecided: Sequence[str]) -> str:
-    """The theorem of the whole list, in which these machines are undecided."""
+    """The theorem of the complete list, in which these machines are undecided."""
     groups = groups_of(job.lines[0].split(" ")[0])
     fields: dict[str, object] = {"states": len(groups), "symbols": len(groups[0])}
     fields["counts"] = "%d %d %d" % (job.counts.lines, job.counts.undecided, job.counts.wide)

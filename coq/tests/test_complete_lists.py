@@ -1,4 +1,4 @@
-"""Whole lists: the checker that Coq extracts answers as `cover` does, and wrong ones are noticed."""
+"""Complete lists: the checker that Coq extracts answers as `cover` does, and wrong ones are noticed."""
 
 import pathlib
 import random
@@ -88,7 +88,7 @@ def earlier_halts(lines: Sequence[str]) -> Iterator[list[str]]:
 
 
 @pytest.mark.parametrize("states, symbols", SIZES)
-def test_whole_list_is_answered_alike(
+def test_complete_list_is_answered_alike(
     cover: str, coq_cover: str, decide_all: Decide, states: int, symbols: int
 ) -> None:
     done = compare(cover, coq_cover, LIST_LIMITS, as_lines(decide_all(states, symbols)))
@@ -234,7 +234,7 @@ def check_again(folder: pathlib.Path, name: str = "Made.v") -> CommandResult:
 
 @pytest.mark.usefixtures("coq_cover")
 @pytest.mark.parametrize("states, symbols", SIZES)
-def test_theorem_of_a_whole_list(
+def test_theorem_of_a_complete_list(
     decide_all: Decide, tmp_path: pathlib.Path, states: int, symbols: int
 ) -> None:
     lines = decide_all(states, symbols)

@@ -1,4 +1,4 @@
-"""The checker of exact repetition that Coq extracts confirms true numbers, and refuses each wrong one."""
+"""The checker of exact recurrence that Coq extracts confirms true numbers, and refuses each wrong one."""
 
 from __future__ import annotations
 

@@ -187,7 +187,7 @@ static void require_costs(void) {
     REQUIRE(costs("1RA1RA cycler 1 2\n", 0, BB_LIMITS, AS_IT_WAS));
 }
 
-/* Whether the repetitions of a list end with this status and these replies, and with room for one byte less are
+/* Whether the recurrences of a list end with this status and these replies, and with room for one byte less are
  * too long. */
 static bool recurs(const char *list, bool entries, uint64_t cells, uint32_t status, const char *wanted) {
     size_t length = strlen(wanted);

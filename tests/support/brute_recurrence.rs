@@ -1,4 +1,4 @@
-//! Exact repetitions by brute force, to compare with the program `recurrence`: for each verdict line of standard
+//! Exact recurrences by brute force, to compare with the program `recurrence`: for each verdict line of standard
 //! input the same reply, found from the definitions alone.
 //!
 //! It writes the whole run down, three distances of the pair beyond its first step. Each number from 1 on is

@@ -36,7 +36,7 @@ MOST = dict(zip(LIMITS, GREATEST))
 # Options of rustc for `benchmarks/limit`: the processor, and the layout of the program's code.
 LIMIT_OPTIONS = ["target-cpu=x86-64-v3"]
 LIMIT_OPTIONS += ["llvm-args=-x86-branches-within-32B-boundaries", "llvm-args=-align-loops=32"]
-# Each machine of whole lists that leads to others halts within so many steps.
+# Each machine of complete lists that leads to others halts within so many steps.
 LIST_STEPS = 200
 LIST_LIMITS = ["--steps=200", "--cells=512", "--depth=40", "--nodes=1000"]
 Decide = Callable[[int, int], list[str]]

@@ -22,7 +22,7 @@ DEFAULT = (1_000_000, 65_536, 300, 1_000_000)
 LIMITS = (1_000, 1_024, 40, 10_000)
 SMALL = (40, 9, 5, 12)
 LARGE = (20_000, 4_096, 100, 10_000)
-# Limits at which the whole list of four states is decided and checked.
+# Limits at which the complete list of four states is decided and checked.
 WHOLE = ((200, 256, 20, 1_000), LIMITS, LARGE)
 # Other lists: the states, and words for the program that lists machines.
 LISTS = (("5", "--steps", "1000", "--every", "900"), ("2", "--symbols", "3"), ("2", "--symbols", "4"))
@@ -31,7 +31,7 @@ Claims = tuple[Sequence[int], list[str]]
 # What each program is made of: files of Coq without proofs, and files of OCaml.
 OF_LINES = (
     "definitions/Machines definitions/Answers checker/ClaimChecker checker/LineChecker"
-    " definitions/ExactRepetition checker/RecurrenceChecker programs/ExtractLineCheckers"
+    " definitions/ExactRecurrence checker/RecurrenceChecker programs/ExtractLineCheckers"
 )
 PROGRAMS = {
     "checker": (OF_LINES, "checker.mli checker.ml answering.ml check.ml"),
@@ -114,7 +114,7 @@ def quick_claims(bb: str, list_machines: ListMachines, source: random.Random) ->
 
 
 def long_claims(bb: str, list_machines: ListMachines, source: random.Random) -> Iterator[tuple[str, Claims]]:
-    """Yield lines of whole lists and samples, and a million made ones."""
+    """Yield lines of complete lists and samples, and a million made ones."""
     machines = list_machines(4)
     for limits in WHOLE:
         verdicts = decide(bb, limits, machines)

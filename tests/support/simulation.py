@@ -1,4 +1,4 @@
-"""Runs of machines by the definition of a step alone, and whole lists compared."""
+"""Runs of machines by the definition of a step alone, and complete lists compared."""
 
 from __future__ import annotations
 

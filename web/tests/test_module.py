@@ -43,7 +43,7 @@ MEMORY = 64 * 65_536
 CALLS = ("decide", "check", "recurrence", "trace")
 
 
-# Exact repetition is a fifth of the module.
+# Exact recurrence is a fifth of the module.
 @pytest.mark.parametrize("built, most_bytes", [("module", 120_832), ("page", 311_296)])
 def test_size(request: pytest.FixtureRequest, built: str, most_bytes: int) -> None:
     assert request.getfixturevalue(built).stat().st_size <= most_bytes

@@ -1,4 +1,4 @@
-"""The exact repetition of an open machine: its facts, its last uses, and its marks in the diagram."""
+"""The exact recurrence of an open machine: its facts, its last uses, and its marks in the diagram."""
 
 import pytest
 from support.browser import Page, View

@@ -7,7 +7,7 @@ use Rattle.bb_machine.specs.declared.plan.Plan.{Plan}
 use Rattle.bb_lines.specs.declared.fault.Fault.{Fault}
 use Rattle.bb_run.specs.declared.summary.Summary.{Summary}
 use Rattle.bb_run.specs.CheckEnds.{CheckEnds}
-use Rattle.bb_run.specs.Ends.{DecideEnds, DecideInOneRunEnds, TraceEnds}
+use Rattle.bb_run.specs.Ends.{DecideEnds, DecideInSinglePassEnds, TraceEnds}
 use Rattle.bb_command.specs.declared.command.Work.{Work}
 use Rattle.bb_command.specs.declared.command.Work.TheVariants.{Decide, Check, Trace}
 use Rattle.bb_terminal.specs.NotBegun.{IsNotBegun}
@@ -30,11 +30,11 @@ ServeEnds work bounds left left_then held held_then end =
     work bounds left left_then held held_then end
     ⊎ IsNotBegun left left_then held held_then end
 
--- the same where each machine of a list is decided in one run
-abbrev pub ServeInOneRunEnds : Work → Bounds → Option (List ℕ) → Option (List ℕ) → Option (List ℕ)
+-- the same where each machine of a list is decided in a single pass
+abbrev pub ServeInSinglePassEnds : Work → Bounds → Option (List ℕ) → Option (List ℕ) → Option (List ℕ)
     → Option (List ℕ) → Result Summary Fault → Type 0
-ServeInOneRunEnds work bounds left left_then held held_then end =
-    WorkEnds (λ plan. DecideInOneRunEnds bounds plan left left_then held held_then end)
+ServeInSinglePassEnds work bounds left left_then held held_then end =
+    WorkEnds (λ plan. DecideInSinglePassEnds bounds plan left left_then held held_then end)
     work bounds left left_then held held_then end
     ⊎ IsNotBegun left left_then held held_then end
 

@@ -22,7 +22,7 @@ use bb_terminal::progress::Progress;
 use bb_terminal::streams::Observed;
 use hints::{Hinted, InputHint, plain_number};
 use progress::{Counts, CountsByKind};
-use serve::{is_cut, serve_in_one_run, status};
+use serve::{is_cut, serve_in_single_pass, status};
 use std::alloc::Global;
 use std::io;
 use std::io::{IsTerminal, Read};
@@ -98,7 +98,7 @@ fn serve_input<'a, R: Read + Drop>(
     let shown = progress.as_ref();
     let mut reader = Watched::new(Observed::new(Hinted::new(input), shown));
     let mut writer = Watched::new(Observed::new(rt.stdout(), shown));
-    let end = serve_in_one_run(rt.alloc(), asked, &mut reader, &mut writer, counts);
+    let end = serve_in_single_pass(rt.alloc(), asked, &mut reader, &mut writer, counts);
     if let Some(progress) = shown {
         progress.end();
     }

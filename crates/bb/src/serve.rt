@@ -7,7 +7,7 @@ ghost use Rattle.bb_run.specs.BorneOut.{VerdictsAreBorneOut};
 ghost use Rattle.bb_run.specs.CheckEnds.{CheckEnds};
 ghost use Rattle.bb_run.specs.Ends.{TraceEnds};
 ghost use Rattle.bb_terminal.specs.NotBegun.{IsNotBegun};
-ghost use Rattle.bb.specs.Ends.{IsCut, ServeEnds, ServeInOneRunEnds, end_status};
+ghost use Rattle.bb.specs.Ends.{IsCut, ServeEnds, ServeInSinglePassEnds, end_status};
 
 use crate::progress::Counts;
 use bb_cert::ring_pair;
@@ -17,8 +17,8 @@ use bb_lines::watched::Watched;
 use bb_machine::{Limits, Machine};
 use bb_run::laws::verdicts_are_borne_out;
 use bb_run::{
-    AnswerCounts, Summary, ring_bench, run_check_with_counts, run_decide, run_decide_in_one_run,
-    run_trace,
+    AnswerCounts, Summary, ring_bench, run_check_with_counts, run_decide,
+    run_decide_in_single_pass, run_trace,
 };
 use bb_tape::RingTape;
 use std::alloc::Global;
@@ -65,10 +65,10 @@ pub fn serve<R: Read, W: Write>(
     }
 }
 
-/// The same as [`serve`], byte for byte, but each machine of a list is decided in one run: a halt or a pair
+/// The same as [`serve`], byte for byte, but each machine of a list is decided in a single pass: a halt or a pair
 /// costs about as many steps as its verdict names, and the summary has the steps really made. `counts` has
 /// the lines answered so far.
-pub fn serve_in_one_run<R: Read, W: Write>(
+pub fn serve_in_single_pass<R: Read, W: Write>(
     alloc: Global,
     asked: &Asked,
     reader: &mut Watched<R>,
@@ -80,7 +80,7 @@ pub fn serve_in_one_run<R: Read, W: Write>(
 
     // The result of the work, the input read and the output written; or an allocation failure before it
     // started.
-    ensures ends { ServeInOneRunEnds asked.now.work asked.now.limits
+    ensures ends { ServeInSinglePassEnds asked.now.work asked.now.limits
         (R.remaining (watched_inner reader.old)) (R.remaining (watched_inner reader.new))
         (W.contents (watched_inner writer.old)) (W.contents (watched_inner writer.new)) result }
 
@@ -100,7 +100,7 @@ pub fn serve_in_one_run<R: Read, W: Write>(
     let limits = asked.limits;
     match &asked.work {
         Work::Decide(plan) => match ring_bench(alloc, &limits) {
-            Ok(mut bench) => run_decide_in_one_run(
+            Ok(mut bench) => run_decide_in_single_pass(
                 reader,
                 writer,
                 &limits,

@@ -1,7 +1,7 @@
 //! Command lines from end to end, over bytes in memory, with answers worked out by hand.
 
 use crate::progress::Counts;
-use crate::serve::{serve, serve_in_one_run, status};
+use crate::serve::{serve, serve_in_single_pass, status};
 use arrayvec::ArrayString;
 use bb_command::{Asked, Numbers, Stop, ask, parse_numbers};
 use bb_lines::fault::Fault;
@@ -33,7 +33,7 @@ fn done(
     let asked = ask_with(rt, words).expect(rt, "a command line");
     let mut reader = Watched::new(input);
     let mut writer = Watched::new(Vec::new(rt.alloc()));
-    let end = serve_in_one_run(
+    let end = serve_in_single_pass(
         rt.alloc(),
         &asked,
         &mut reader,
@@ -102,11 +102,11 @@ fn serving_counts_the_cost(rt: HostRuntime) {
         (["decide", "--no-cyclers"].as_slice(), [2_000_000, 4, 2]),
     ] {
         let (end, written) = served(&rt, words, b"0RB---_0LA---");
-        let (in_one_run, same) = done(&rt, words, b"0RB---_0LA---");
+        let (in_single_pass, same) = done(&rt, words, b"0RB---_0LA---");
         assert_eq!(rt; written.as_slice(), same.as_slice());
         let peak = end.expect(&rt, "no fault").peak;
         assert_eq!(rt; [peak.steps, peak.nodes, peak.most_levels], counts);
-        assert!(rt; in_one_run.expect(&rt, "no fault").peak.steps <= peak.steps);
+        assert!(rt; in_single_pass.expect(&rt, "no fault").peak.steps <= peak.steps);
     }
 }
 
@@ -183,7 +183,7 @@ fn traces(rt: HostRuntime) {
     let asked = ask_with(&rt, words).expect(&rt, "a command line");
     let mut writer = Watched::new(Vec::new(rt.alloc()));
     let mut reader = Watched::new(b"not read".as_slice());
-    let end = serve_in_one_run(
+    let end = serve_in_single_pass(
         rt.alloc(),
         &asked,
         &mut reader,

@@ -9,7 +9,7 @@ use Rattle.bb_cert.specs.declared.verdict.Verdict.{Verdict}
 use Rattle.bb_cert.specs.declared.verdict.Verdict.TheVariants.{Backward, Undecided}
 use Rattle.bb_decide.specs.Fingerprint.{CostsWhatItNames, SearchesCollide, most_steps, named_step}
 use Rattle.bb_decide.specs.FingerprintKeys.{spread}
-use Rattle.bb_decide.specs.OneRun.{CountsRuns}
+use Rattle.bb_decide.specs.SinglePassCost.{CountsRuns}
 use Rattle.bb_decide.specs.Sure.{IsFoundByRun, NoneIsSmaller}
 use Rattle.bb_decide.specs.Verdict.{IsVerdict}
 use Rattle.bb_decide.proofs.Facts.{inside_upper, verdict_is_unique}

@@ -6,7 +6,7 @@ use Rattle.bb_machine.specs.declared.plan.Plan.{Plan}
 use Rattle.bb_cert.specs.declared.verdict.Verdict.{Verdict}
 use Rattle.bb_decide.specs.Fingerprint.{SearchesCollide, most_steps, named_step}
 use Rattle.bb_decide.specs.FingerprintKeys.{spread}
-use Rattle.bb_decide.specs.OneRun.{MakesRuns}
+use Rattle.bb_decide.specs.SinglePassCost.{MakesRuns}
 use Rattle.bb_decide.specs.Sure.{IsFoundByRun}
 use Rattle.bb_decide.specs.Verdict.{IsVerdict}
 
@@ -33,7 +33,7 @@ pub record FindsByRun (table : Table) (bounds : Bounds) (plan : Plan) : Type 0 w
   pub is_verdict : IsVerdict table bounds plan verdict
   pub by_run : IsFoundByRun verdict
 
--- deciding in one run makes so many steps
+-- deciding in a single pass makes so many steps
 pub record AreRunSteps (table : Table) (bounds : Bounds) (plan : Plan) (steps : ℕ) : Type 0 where
   pub latest : ℕ
   pub runs : MakesRuns spread table bounds plan.cyclers plan.translated steps latest

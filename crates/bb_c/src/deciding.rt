@@ -14,18 +14,18 @@ ghost use Rattle.bb_run.specs.BorneOut.{VerdictsAreBorneOut};
 ghost use Rattle.bb_run.specs.Reply.{IsReply};
 ghost use Rattle.bb_c.specs.Buffer.{IsFilled, IsTooShort, IsUntouched};
 ghost use Rattle.bb_c.specs.Call.{bounds_of, plan_of};
-ghost use Rattle.bb_decide.specs.OneRun.{CountsRuns};
+ghost use Rattle.bb_decide.specs.SinglePassCost.{CountsRuns};
 ghost use Rattle.bb_c.specs.Cost.{CostsInTwoTries, CountsTries, IsWithinTwoTries, few_bounds};
 
 use crate::buffer::{CLEAN, LIMITS, MEMORY, NOT_CLEAN, SHORT, fill_buffer};
 use arrayvec::ArrayVec;
 use bb_cert::{LINE_BUFFER, Verdict, line_into, lines_are_short, refusal_into};
 use bb_decide::laws::small_limits_decide;
-use bb_decide::{Plan, SpreadKeys, decide_in_one_run};
+use bb_decide::{Plan, SpreadKeys, decide_in_single_pass};
 use bb_lines::watched::Watched;
 use bb_machine::{Limits, Machine};
 use bb_run::laws::verdicts_are_borne_out;
-use bb_run::{VerdictCounts, ring_bench, run_decide_in_one_run};
+use bb_run::{VerdictCounts, ring_bench, run_decide_in_single_pass};
 use bb_sim::Meter;
 use bb_tape::Memory;
 use std::alloc::Global;
@@ -98,7 +98,7 @@ fn verdicts(
     let mut reader = Watched::new(list);
     let mut writer = Watched::new(Vec::new(alloc));
     let counts = VerdictCounts::default();
-    match run_decide_in_one_run(&mut reader, &mut writer, limits, plan, &mut bench, &counts) {
+    match run_decide_in_single_pass(&mut reader, &mut writer, limits, plan, &mut bench, &counts) {
         Ok(summary) => Ok((writer.into_inner(), summary.clean)),
         Err(_) => Err(Memory),
     }
@@ -262,5 +262,5 @@ fn verdict_within(
     ensures within { OnOk result (IsWithinCost limits.now meter.new) }
 {
     let mut bench = ring_bench(alloc, limits)?;
-    decide_in_one_run(machine, limits, plan, &SpreadKeys, &mut bench, meter)
+    decide_in_single_pass(machine, limits, plan, &SpreadKeys, &mut bench, meter)
 }

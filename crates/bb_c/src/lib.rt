@@ -10,7 +10,7 @@ mod checking;
 mod deciding;
 pub mod laws;
 mod lines;
-mod recurring;
+mod recurrence;
 mod reply_validation;
 #[cfg(test)]
 mod tests;

@@ -6,7 +6,7 @@ use crate::check_cost::bb_check_cost;
 use crate::checking::{bb_check, bb_check_line};
 use crate::deciding::{bb_decide, bb_decide_line};
 use crate::lines::bb_line_of;
-use crate::recurring::bb_recurrence;
+use crate::recurrence::bb_recurrence;
 use crate::tracing::bb_trace;
 use bb_run::CheckCost;
 use std::process::Abort;

@@ -1,4 +1,4 @@
 -- Definitions for private functions. No public contract cites them.
 pub mod Checks
-pub mod NarrowChecks
+pub mod RegisterChecks
 pub mod Runs

@@ -8,11 +8,11 @@ ghost use Rattle.bb_cert.specs.records.Follow.{IsNarrow, IsWidened, LiesAs, Tell
 ghost use Rattle.bb_cert.specs.records.Follow.{nearest_out, number_of};
 ghost use Rattle.bb_cert.specs.records.Follow.{passed, top_of, with_kept};
 ghost use Rattle.bb_cert.specs.records.Word.{AgreesInWord, IsComparableInWord};
-ghost use Rattle.bb_narrow.specs.BitCells.{content_of};
+ghost use Rattle.bb_registers.specs.BitCells.{content_of};
 
 use crate::verdict::{Extent, Side};
 use bb_machine::Next;
-use bb_narrow::BitCells;
+use bb_registers::BitCells;
 use bb_sim::Runner;
 use bb_tape::Tape;
 use bb_tape::widening::widen_to;

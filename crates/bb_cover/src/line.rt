@@ -1,4 +1,4 @@
-//! The line of a machine: the machine of a whole list whose verdict settles it.
+//! The line of a machine: the machine of a complete list whose verdict settles it.
 ghost use Rattle.std.specs.Prelude.{◌≡◌, ◌≢◌, ◌⊎◌, ℕ, ◌+◌, ◌<◌, IfOk, IsTrue, MatchOption, OnErr};
 ghost use Rattle.std.specs.Prelude.{false, length};
 ghost use Rattle.bb_machine.specs.declared.entry.Dir.{Dir};

@@ -117,7 +117,7 @@ module _ (table : Table) (n : ℕ) (runner : Runner) (run saved : TapeView) (old
     ready sound = record {
       kept_out = omega (arith, ints, searched.followed.number_is);
       head_out = omega (arith, ints, top_is);
-      narrow = number_narrow table runner run saved with_next stands known makes kept_before sound;
+      held = number_narrow table runner run saved with_next stands known makes kept_before sound;
       comparable = comparable table runner run saved with_next stands known makes;
     }
 

@@ -10,7 +10,7 @@ use Rattle.bb_sim.specs.Configuration.{start}
 use Rattle.bb_sim.proofs.Facts.{conf-start, span_grows}
 use Rattle.bb_tape.specs.Content.{Content, blank}
 use Rattle.bb_decide.specs.Cycle.{CountsSearch, FindsCycle}
-use Rattle.bb_decide.specs.OneRun.{BreaksOff, IsStoppedAt, LeavesRegisters, RunsBefore}
+use Rattle.bb_decide.specs.SinglePassCost.{BreaksOff, IsStoppedAt, LeavesRegisters, RunsBefore}
 use Rattle.bb_decide.specs.declared.search_result.SearchResult.{SearchResult}
 use Rattle.bb_decide.specs.inside.SearchResult.{CutsSinglePass, RanAs, found_of, is_settled}
 use Rattle.bb_decide.proofs.Costs.{makes_cycles}

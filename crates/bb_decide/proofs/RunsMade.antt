@@ -18,14 +18,14 @@ use Rattle.bb_decide.specs.Backward.{CountsTree}
 use Rattle.bb_decide.specs.Cost.{CycleSteps, StepsIfMade, TranslationSteps}
 use Rattle.bb_decide.specs.Cycle.{CountsSearch, FindsCycle, HasNoCycle}
 use Rattle.bb_decide.specs.Translation.{FindsTranslation}
-use Rattle.bb_decide.specs.OneRun.{BreaksOff, CountsRefused, CountsRuns, IsStoppedAt, MakesRuns}
-use Rattle.bb_decide.specs.OneRun.{SinglePassSteps}
+use Rattle.bb_decide.specs.SinglePassCost.{BreaksOff, CountsRefused, CountsRuns, IsStoppedAt, MakesRuns}
+use Rattle.bb_decide.specs.SinglePassCost.{SinglePassSteps}
 use Rattle.bb_decide.specs.declared.search_result.SearchResult.{SearchResult}
 use Rattle.bb_decide.specs.declared.search_result.SearchResult.TheVariants.{Found, Ran}
 use Rattle.bb_decide.specs.inside.SearchResult.{AddsRuns, RanAs, MakesSinglePass, found_of, is_settled}
 use Rattle.bb_decide.specs.Laws.{RunsAreUnique}
 use Rattle.bb_decide.proofs.Costs.{makes_cycles, makes_translations, walk_keeps}
-use Rattle.bb_decide.proofs.OneRun.{halts_nowhere, no_cycle_beside}
+use Rattle.bb_decide.proofs.SinglePassVerdicts.{halts_nowhere, no_cycle_beside}
 use Rattle.bb_decide.proofs.Verdicts.{cycle_steps_are_one, steps_if_made_are_one, translation_steps_are_one}
 
 -- ---- what runs add

@@ -19,13 +19,13 @@ use Rattle.bb_sim.specs.Runner.{Answers, Moves, Reaches, Stands, Stays, state_of
 use Rattle.bb_sim.specs.Span.{Inside, IsLastInside}
 use Rattle.bb_sim.proofs.Facts.{count_is_within, halted_end, halts_in_Z, halts_last, no_halt_inside}
 use Rattle.bb_sim.proofs.Facts.{wide_at_end}
-use Rattle.bb_narrow.specs.Registers.{FitsRegisters}
+use Rattle.bb_registers.specs.Registers.{FitsRegisters}
 use Rattle.bb_cert.specs.declared.verdict.Verdict.{Verdict}
 use Rattle.bb_cert.specs.declared.verdict.Verdict.TheVariants.{Translated}
 use Rattle.bb_cert.specs.claims.Claim.{Claim}
 use Rattle.bb_cert.specs.verdict.Verdict.{HasNumbers}
 use Rattle.bb_decide.specs.Cycle.{CountsSearch, HasNoCycle}
-use Rattle.bb_decide.specs.OneRun.{IsStoppedAt}
+use Rattle.bb_decide.specs.SinglePassCost.{IsStoppedAt}
 use Rattle.bb_decide.specs.Translation.{FindsTranslation, HasNoTranslation}
 use Rattle.bb_decide.specs.declared.bench.Bench.{Bench}
 use Rattle.bb_decide.specs.declared.search_result.SearchResult.TheVariants.{Found, Ran}

@@ -22,14 +22,14 @@ use Rattle.bb_sim.specs.Runner.{Stands, position_of, state_of, steps_of}
 use Rattle.bb_sim.specs.Span.{Inside, counted_head}
 use Rattle.bb_sim.proofs.Facts.{conf-start, counted_head-at, greatest_bounds}
 use Rattle.bb_sim.proofs.Facts.{head_inside, counted_running, least_bounds, small_position}
-use Rattle.bb_narrow.specs.Registers.{FitsRegisters}
-use Rattle.bb_narrow.proofs.Facts.{fits_before}
+use Rattle.bb_registers.specs.Registers.{FitsRegisters}
+use Rattle.bb_registers.proofs.Facts.{fits_before}
 use Rattle.bb_cert.specs.claims.Repeat.{Same}
 use Rattle.bb_cert.specs.declared.verdict.Side.{Side}
 use Rattle.bb_cert.specs.declared.verdict.Verdict.{Verdict}
 use Rattle.bb_cert.proofs.Facts.{alike_of_same, led_by, moves}
 use Rattle.bb_decide.specs.Fingerprint.{MatchesPartner, fingerprint}
-use Rattle.bb_decide.specs.OneRun.{IsStoppedAt, LooksAgain}
+use Rattle.bb_decide.specs.SinglePassCost.{IsStoppedAt, LooksAgain}
 use Rattle.bb_decide.specs.Partner.{IsPartner}
 use Rattle.bb_decide.proofs.OneSide.{TellsAgreement}
 use Rattle.bb_decide.specs.inside.Fingerprints.{AreAsKept, KeepInTurn, first_fingerprints}

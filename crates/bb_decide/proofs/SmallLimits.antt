@@ -14,7 +14,7 @@ use Rattle.bb_decide.specs.Sure.{NoneIsSmaller}
 use Rattle.bb_decide.specs.Translation.{IsFirstTranslation}
 use Rattle.bb_decide.proofs.KnownOfVerdicts.{cyclers_are_on, extent_is_told, has_score, is_first_agreement}
 use Rattle.bb_decide.proofs.KnownOfVerdicts.{is_first_cycle, is_halt_within, translated_are_on}
-use Rattle.bb_decide.proofs.OneRun.{found_is_verdict, no_cycle_beside}
+use Rattle.bb_decide.proofs.SinglePassVerdicts.{found_is_verdict, no_cycle_beside}
 
 module _ (table : Table) (lower upper : Bounds) (within : NoneIsSmaller lower upper) where
   -- what is inside the smaller limits is inside the larger ones

@@ -9,7 +9,7 @@ use Rattle.bb_tape.specs.Content.{Content, cell}
 use Rattle.bb_sim.specs.Configuration.{Configuration}
 use Rattle.bb_sim.specs.Run.{conf}
 use Rattle.bb_sim.specs.Span.{Inside}
-use Rattle.bb_narrow.specs.Registers.{FitsRegisters}
+use Rattle.bb_registers.specs.Registers.{FitsRegisters}
 use Rattle.bb_cert.specs.declared.verdict.Verdict.{Verdict}
 use Rattle.bb_cert.specs.declared.verdict.Verdict.TheVariants.{Halt, Cycler, Translated}
 use Rattle.bb_decide.specs.Partner.{IsPartner}

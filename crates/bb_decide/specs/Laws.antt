@@ -17,7 +17,7 @@ use Rattle.bb_decide.specs.Sure.{IsFoundByRun, IsLeastPower, NoneIsSmaller, Stay
 use Rattle.bb_decide.specs.Translation.{IsTranslation}
 use Rattle.bb_decide.specs.Verdict.{IsVerdict}
 use Rattle.bb_decide.specs.Cost.{DecisionSteps}
-use Rattle.bb_decide.specs.OneRun.{MakesRuns}
+use Rattle.bb_decide.specs.SinglePassCost.{MakesRuns}
 
 -- two verdicts on one machine, within the same bounds and by the same plan, are the same
 abbrev pub VerdictIsUnique : Type 0

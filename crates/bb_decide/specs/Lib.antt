@@ -7,7 +7,7 @@ pub mod FewCells
 pub mod Fingerprint
 pub mod FingerprintKeys
 pub mod Laws
-pub mod OneRun
+pub mod SinglePassCost
 pub mod Partner
 pub mod Sure
 pub mod Translation

@@ -5,7 +5,7 @@ pub mod SearchResult
 pub mod Fingerprints
 pub mod Sprints
 pub mod Step
-pub mod NarrowPass
-pub mod NarrowRecords
+pub mod RegisterPass
+pub mod RegisterRecords
 pub mod Searching
 pub mod BlockPasses

@@ -7,19 +7,19 @@ ghost use Rattle.bb_tape.specs.declared.tape.TheConstants.{MAX_CELLS};
 ghost use Rattle.bb_tape.specs.Content.{Content};
 ghost use Rattle.bb_tape.specs.TapeView.{TapeView};
 ghost use Rattle.bb_sim.specs.Runner.{position_of, state_of, steps_of};
-ghost use Rattle.bb_narrow.specs.Blocks.{IsBlockOf};
+ghost use Rattle.bb_registers.specs.Blocks.{IsBlockOf};
 ghost use Rattle.bb_decide.specs.Fingerprint.{fingerprint};
 ghost use Rattle.bb_decide.specs.inside.BlockPasses.{CanPass, ChangesTo, IsBarrier, IsBlockTable};
 ghost use Rattle.bb_decide.specs.inside.Searching.{IsUnderWay};
 
 use crate::fingerprint::update_fingerprint;
 use crate::keys::FingerprintKeys;
-use crate::narrow_records::position_of_bit;
+use crate::register_records::position_of_bit;
 use crate::single_pass::{Fingerprints, SinglePass};
 use crate::sprint::Sprint;
 use bb_machine::{Limits, Machine};
-use bb_narrow::blocks::block_start;
-use bb_narrow::{Barrier, BlockRun, NarrowTable, fits_registers};
+use bb_registers::blocks::block_start;
+use bb_registers::{Barrier, BlockRun, RegisterTable, fits_registers};
 use bb_sim::Runner;
 use bb_tape::Tape;
 
@@ -104,7 +104,7 @@ fn fingerprint_of_block<K: FingerprintKeys>(
 }
 
 /// The table of a machine that fits the registers, for a tape that doesn't grow.
-pub(crate) fn block_table<T: Tape>(machine: &Machine, _tape: &T) -> Option<NarrowTable>
+pub(crate) fn block_table<T: Tape>(machine: &Machine, _tape: &T) -> Option<RegisterTable>
     ensures { IfSome result (IsBlockTable T.GROWS machine.now) }
 {
     if T::GROWS {
@@ -113,14 +113,14 @@ pub(crate) fn block_table<T: Tape>(machine: &Machine, _tape: &T) -> Option<Narro
     if !fits_registers(machine) {
         return None;
     }
-    Some(NarrowTable::new(machine))
+    Some(RegisterTable::new(machine))
 }
 
 /// The single-pass run after steps in a block around the head.
 #[inline(never)]
 pub(crate) fn pass_block<T: Tape, K: FingerprintKeys>(
     machine: &Machine,
-    table: &NarrowTable,
+    table: &RegisterTable,
     limits: &Limits,
     keys: &K,
     begun: SinglePass,
@@ -169,7 +169,7 @@ pub(crate) fn pass_block<T: Tape, K: FingerprintKeys>(
 
 /// Where a block begins that has so many cells before the head, if there is a table for it.
 #[inline(always)]
-pub(crate) fn block_for(table: &Option<NarrowTable>, runner: &Runner, before: i64) -> Option<i64>
+pub(crate) fn block_for(table: &Option<RegisterTable>, runner: &Runner, before: i64) -> Option<i64>
     requires low { neg_ℤ (pos MAX_CELLS) ≤ℤ position_of runner.now }
     requires high { position_of runner.now ≤ℤ pos MAX_CELLS }
     requires some { pos 0 ≤ℤ before }

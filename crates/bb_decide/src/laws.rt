@@ -15,7 +15,7 @@ pub fn steps_are_unique()
     ensures bounded { StepsAreBounded }
 {}
 
-/// Deciding it in one run has no two counts of steps either, and its latest step is the same each time.
+/// Deciding it in a single pass has no two counts of steps either, and its latest step is the same each time.
 pub fn runs_are_unique()
     ensures { RunsAreUnique }
 {}

@@ -2,10 +2,10 @@
 ghost use Rattle.std.specs.Prelude.{◌≡◌, ◌+◌, ◌*◌, ◌<◌, ◌≤◌, ◌^◌, ℤ, IfSome, IsTrue, length};
 ghost use Rattle.bb_machine.specs.Machine.{symbols_of};
 ghost use Rattle.bb_sim.specs.Runner.{steps_of};
-ghost use Rattle.bb_narrow.specs.Registers.{FitsRegisters};
+ghost use Rattle.bb_registers.specs.Registers.{FitsRegisters};
 ghost use Rattle.bb_decide.specs.Bench.{BenchHasCells};
 ghost use Rattle.bb_decide.specs.inside.BlockPasses.{IsBlockTable};
-ghost use Rattle.bb_decide.specs.inside.NarrowPass.{IsInNarrowPass};
+ghost use Rattle.bb_decide.specs.inside.RegisterPass.{IsInRegisterPass};
 ghost use Rattle.bb_decide.specs.inside.SearchResult.{RunsSinglePass};
 ghost use Rattle.bb_decide.specs.inside.Searching.{IsUnderWay};
 
@@ -13,14 +13,14 @@ use crate::bench::Bench;
 use crate::block_pass::{block_for, block_table, pass_block};
 use crate::fingerprint::update_fingerprint;
 use crate::keys::FingerprintKeys;
-use crate::narrow_pass::{NarrowPass, NarrowResult, run_narrow_pass};
 use crate::record_search::compare_record;
+use crate::register_pass::{RegisterPass, RegisterResult, run_register_pass};
 use crate::search_result::{SearchResult, count_run, outcome_of};
 use bb_cert::Side;
 use bb_cert::records::{Records, widened_side};
 use bb_machine::{Limits, Machine};
-use bb_narrow::blocks::cells_before;
-use bb_narrow::{NarrowTable, fits_registers};
+use bb_registers::blocks::cells_before;
+use bb_registers::{RegisterTable, fits_registers};
 use bb_sim::{Meter, Moved, Runner};
 use bb_tape::{Memory, Tape};
 
@@ -90,7 +90,7 @@ impl SinglePass {
     ghost use Rattle.std.specs.Prelude.{◌≡◌, ℕ, ℤ};
     ghost use Rattle.bb_machine.specs.Limits.{Bounds};
     ghost use Rattle.bb_tape.specs.TapeView.{TapeView};
-    ghost use Rattle.bb_narrow.specs.Registers.{FitsRegisters};
+    ghost use Rattle.bb_registers.specs.Registers.{FitsRegisters};
     ghost use Rattle.bb_decide.specs.inside.Searching.{IsUnderWay};
 
     /// The run at its start.
@@ -137,18 +137,18 @@ pub fn run_single_pass<T: Tape, K: FingerprintKeys>(
         return Ok(search_result);
     }
     limits.show_accepted();
-    let end = run_narrow_pass(machine, limits);
+    let end = run_register_pass(machine, limits);
     let run = end.pass.run;
     match end.result {
-        NarrowResult::Found(verdict) => {
+        RegisterResult::Found(verdict) => {
             run.count(run.steps, limits, meter);
             Ok(Some(SearchResult::Found(verdict)))
         }
-        NarrowResult::Ran(outcome) => {
+        RegisterResult::Ran(outcome) => {
             run.count(run.last_step(outcome), limits, meter);
             Ok(Some(SearchResult::Ran(outcome)))
         }
-        NarrowResult::Outside => {
+        RegisterResult::Outside => {
             let pass = end.pass;
             let Ok(search_result) = leave_registers(&pass, machine, limits, keys, bench, meter)
             else {
@@ -184,7 +184,7 @@ fn run_on_bench<T: Tape, K: FingerprintKeys>(
 /// Continues a single-pass run on the bench, from its last configuration in registers.
 #[inline(never)]
 fn leave_registers<T: Tape, K: FingerprintKeys>(
-    pass: &NarrowPass,
+    pass: &RegisterPass,
     machine: &Machine,
     limits: &Limits,
     keys: &K,
@@ -193,7 +193,7 @@ fn leave_registers<T: Tape, K: FingerprintKeys>(
 ) -> Result<Option<SearchResult>, Memory>
     requires symbols { symbols_of machine.now ≡ 2 }
     requires states { length machine.now ≤ 7 }
-    requires pass { IsInNarrowPass machine.now limits.now pass.now }
+    requires pass { IsInRegisterPass machine.now limits.now pass.now }
     requires wide { FitsRegisters machine.now (pass.now.run.steps + 1) → ⊥ }
     requires tapes { BenchHasCells T.view limits.now.cells bench.old }
     requires room { meter.old.steps ≤ 2 * limits.now.steps }
@@ -254,7 +254,7 @@ fn continue_single_pass<T: Tape, K: FingerprintKeys>(
 /// blocks.
 #[inline(always)]
 fn continue_with<T: Tape, K: FingerprintKeys>(
-    table: Option<NarrowTable>,
+    table: Option<RegisterTable>,
     machine: &Machine,
     limits: &Limits,
     keys: &K,
@@ -286,7 +286,7 @@ fn run_single_pass_inline<T: Tape, K: FingerprintKeys>(
     limits: &Limits,
     keys: &K,
     begun: SinglePass,
-    table: Option<NarrowTable>,
+    table: Option<RegisterTable>,
     bench: &mut Bench<T>,
     meter: &mut Meter,
 ) -> Result<Option<SearchResult>, Memory>

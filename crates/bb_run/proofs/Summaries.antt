@@ -13,7 +13,7 @@ use Rattle.bb_sim.proofs.Facts.{last_step_is_unique}
 use Rattle.bb_cert.specs.declared.verdict.Verdict.TheVariants.{Backward}
 use Rattle.bb_decide.specs.Cost.{CountsWalk, DecisionSteps, IsWithinCost, MakesWalk}
 use Rattle.bb_decide.specs.FingerprintKeys.{spread}
-use Rattle.bb_decide.specs.OneRun.{MakesRuns}
+use Rattle.bb_decide.specs.SinglePassCost.{MakesRuns}
 use Rattle.bb_decide.specs.Verdict.{IsVerdict}
 use Rattle.bb_decide.proofs.Facts.{is_tree, runs_are_unique, steps_are_bounded, steps_are_unique}
 use Rattle.bb_decide.proofs.Facts.{walk_is_made}
@@ -21,9 +21,9 @@ use Rattle.bb_lines.specs.declared.fault.Fault.{Fault}
 use Rattle.bb_lines.specs.declared.fault.Fault.TheVariants.{Memory}
 use Rattle.bb_lines.specs.Ends.{ListEnds}
 use Rattle.bb_run.specs.declared.summary.Summary.{Summary}
-use Rattle.bb_run.specs.Seen.{CountsExactly, CountsInOneRun, SawBy, SawLine, SawLines, SawMachine, SawRefusal}
+use Rattle.bb_run.specs.Seen.{CountsExactly, CountsInSinglePass, SawBy, SawLine, SawLines, SawMachine, SawRefusal}
 use Rattle.bb_run.specs.Seen.{none_seen}
-use Rattle.bb_run.specs.Summary.{AreRunStepsOf, AreStepsOf, IsOneRunSummary}
+use Rattle.bb_run.specs.Summary.{AreRunStepsOf, AreStepsOf, IsSinglePassSummary}
 use Rattle.bb_run.specs.Summary.{IsSummed}
 use Rattle.bb_run.specs.Summary.{IsRunSpanOf, IsSpanOf, IsSummary, IsTreeOf}
 use Rattle.bb_run.proofs.Peaks.{IsPeak-over, IsPeak-past, all_more, clean_more}
@@ -162,7 +162,7 @@ module _ (one : TextsDiffer) (bounds : Bounds) (plan : Plan) where
     machine_of_cells = λ n has. (has.table, has.of);
   }
 
-  counts_runs : CountsOnce bounds plan (CountsInOneRun bounds plan) (AreRunStepsOf bounds plan)
+  counts_runs : CountsOnce bounds plan (CountsInSinglePass bounds plan) (AreRunStepsOf bounds plan)
       (IsRunSpanOf bounds plan)
   counts_runs = record {
     limited = λ table meter counts. record { within = counts.within; walk = counts.walk };
@@ -199,10 +199,10 @@ module _ (one : TextsDiffer) (bounds : Bounds) (plan : Plan) where
       → SawLines (CountsExactly bounds plan) lines summary → IsSummary bounds plan lines summary
   summed = lines_summed one counts_cost
 
-  -- so is one that decides each machine in one run
-  pub summed_in_one_run : (lines : List (List ℕ)) (summary : Summary)
-      → SawLines (CountsInOneRun bounds plan) lines summary → IsOneRunSummary bounds plan lines summary
-  summed_in_one_run = lines_summed one counts_runs
+  -- so is one that decides each machine in a single pass
+  pub summed_in_single_pass : (lines : List (List ℕ)) (summary : Summary)
+      → SawLines (CountsInSinglePass bounds plan) lines summary → IsSinglePassSummary bounds plan lines summary
+  summed_in_single_pass = lines_summed one counts_runs
 
 -- what a decider's lines do to its summary, whatever else it has
 module _ {D : Type 0} (Counts : Bounds → Plan → Table → Meter → Type 0) (bounds : D → Bounds)

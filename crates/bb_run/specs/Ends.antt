@@ -7,7 +7,7 @@ use Rattle.bb_lines.specs.Ends.{AppendsPrefix, ListEnds, MatchEnd}
 use Rattle.bb_machine.specs.declared.plan.Plan.{Plan}
 use Rattle.bb_run.specs.declared.summary.Summary.{Summary}
 use Rattle.bb_run.specs.Reply.{IsReply}
-use Rattle.bb_run.specs.Summary.{IsOneRunSummary, IsSummary}
+use Rattle.bb_run.specs.Summary.{IsSinglePassSummary, IsSummary}
 use Rattle.bb_run.specs.Trace.{AppendsSomeLines, IsTrace, IsTraceSummary, lines_text}
 
 -- how deciding a list ends: the replies are the verdicts, and the summary that of the machines read
@@ -16,11 +16,11 @@ abbrev pub DecideEnds : Bounds → Plan → Option (List ℕ) → Option (List �
 DecideEnds bounds plan left left_then held held_then end =
     ListEnds (IsReply bounds plan) (IsSummary bounds plan) left left_then held held_then end
 
--- the same for deciding each machine in one run: the summary has the steps really made
-abbrev pub DecideInOneRunEnds : Bounds → Plan → Option (List ℕ) → Option (List ℕ) → Option (List ℕ)
+-- the same for deciding each machine in a single pass: the summary has the steps really made
+abbrev pub DecideInSinglePassEnds : Bounds → Plan → Option (List ℕ) → Option (List ℕ) → Option (List ℕ)
     → Option (List ℕ) → Result Summary Fault → Type 0
-DecideInOneRunEnds bounds plan left left_then held held_then end =
-    ListEnds (IsReply bounds plan) (IsOneRunSummary bounds plan) left left_then held held_then end
+DecideInSinglePassEnds bounds plan left left_then held held_then end =
+    ListEnds (IsReply bounds plan) (IsSinglePassSummary bounds plan) left left_then held held_then end
 
 -- how a trace ends: without fault all its lines are written; after an allocation failure the first few, not
 -- all; after a failed write a prefix

@@ -8,16 +8,16 @@ use Rattle.bb_sim.specs.Meter.{greatest_of, zero_meter}
 use Rattle.bb_machine.specs.declared.plan.Plan.{Plan}
 use Rattle.bb_decide.specs.Cost.{CountsWalk, CountsCost, IsWithinCost, MakesWalk}
 use Rattle.bb_decide.specs.FingerprintKeys.{spread}
-use Rattle.bb_decide.specs.OneRun.{CountsRuns}
+use Rattle.bb_decide.specs.SinglePassCost.{CountsRuns}
 use Rattle.bb_run.specs.declared.summary.Summary.{Summary}
 
 -- deciding a machine has counted exactly its cost
 abbrev pub CountsExactly : Bounds → Plan → Table → Meter → Type 0
 CountsExactly bounds plan table meter = CountsCost table bounds plan meter
 
--- deciding a machine in one run has counted the runs that it made, the nodes and levels of its walk, and no
+-- deciding a machine in a single pass has counted the runs that it made, the nodes and levels of its walk, and no
 -- more than it may
-pub record CountsInOneRun (bounds : Bounds) (plan : Plan) (table : Table) (meter : Meter) : Type 0 where
+pub record CountsInSinglePass (bounds : Bounds) (plan : Plan) (table : Table) (meter : Meter) : Type 0 where
   pub runs : CountsRuns spread table bounds plan meter
   pub within : IsWithinCost bounds meter
   pub walk : CountsWalk (MakesWalk table bounds plan) table bounds meter

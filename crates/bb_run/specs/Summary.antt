@@ -9,7 +9,7 @@ use Rattle.bb_machine.specs.declared.plan.Plan.{Plan}
 use Rattle.bb_decide.specs.Verdict.{IsVerdict}
 use Rattle.bb_decide.specs.Cost.{IsWithinCost, DecisionSteps}
 use Rattle.bb_decide.specs.FingerprintKeys.{spread}
-use Rattle.bb_decide.specs.OneRun.{MakesRuns}
+use Rattle.bb_decide.specs.SinglePassCost.{MakesRuns}
 use Rattle.bb_run.specs.declared.summary.Summary.{Summary}
 
 -- the line is the text of a machine that is decided by so many steps
@@ -26,7 +26,7 @@ pub record IsSpanOf (bounds : Bounds) (line : List ℕ) (width : ℕ) : Type 0 w
   pub is_last : IsLastInside table bounds last
   pub is_span : width ≡ span table last
 
--- the line is the text of a machine that is decided in one run by so many steps, with the program's keys
+-- the line is the text of a machine that is decided in a single pass by so many steps, with the program's keys
 pub record AreRunStepsOf (bounds : Bounds) (plan : Plan) (line : List ℕ) (steps : ℕ) : Type 0 where
   pub table : Table
   pub of : IsTextOf table line
@@ -79,6 +79,6 @@ pub record IsSummed (bounds : Bounds) (plan : Plan) (Steps Cells : List ℕ → 
 abbrev pub IsSummary : Bounds → Plan → List (List ℕ) → Summary → Type 0
 IsSummary bounds plan = IsSummed bounds plan (AreStepsOf bounds plan) (IsSpanOf bounds)
 
--- for deciding each machine in one run, those of the runs made
-abbrev pub IsOneRunSummary : Bounds → Plan → List (List ℕ) → Summary → Type 0
-IsOneRunSummary bounds plan = IsSummed bounds plan (AreRunStepsOf bounds plan) (IsRunSpanOf bounds plan)
+-- for deciding each machine in a single pass, those of the runs made
+abbrev pub IsSinglePassSummary : Bounds → Plan → List (List ℕ) → Summary → Type 0
+IsSinglePassSummary bounds plan = IsSummed bounds plan (AreRunStepsOf bounds plan) (IsRunSpanOf bounds plan)

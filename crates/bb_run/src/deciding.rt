@@ -1,17 +1,17 @@
-//! Verdicts on the machines of a list, a line each: by the definition, or each machine in one run.
+//! Verdicts on the machines of a list, a line each: by the definition, or each machine in a single pass.
 ghost use Rattle.std.specs.Prelude.{◌≡◌, ◌↔◌, false, true, IsTrue};
 ghost use Rattle.bb_tree.specs.Path.{depth_of};
 ghost use Rattle.bb_decide.specs.Bench.{BenchHasCells};
 ghost use Rattle.bb_lines.specs.Watched.{is_marked, watched_inner};
 ghost use Rattle.bb_run.specs.BorneOut.{VerdictsAreBorneOut};
-ghost use Rattle.bb_run.specs.Ends.{DecideEnds, DecideInOneRunEnds};
+ghost use Rattle.bb_run.specs.Ends.{DecideEnds, DecideInSinglePassEnds};
 ghost use Rattle.bb_run.specs.FewCells.{FewCellsAreReplied};
 
 use crate::counts::VerdictCounts;
 use crate::decider::{Decide, reply_to_lines};
 use crate::summary::Summary;
 use bb_cert::Verdict;
-use bb_decide::{Bench, Plan, SpreadKeys, decide, decide_in_one_run};
+use bb_decide::{Bench, Plan, SpreadKeys, decide, decide_in_single_pass};
 use bb_lines::fault::Fault;
 use bb_lines::watched::Watched;
 use bb_machine::laws::texts_differ;
@@ -41,12 +41,12 @@ impl Decide for InTurn {
 }
 
 /// By a single-pass run for all verdicts.
-struct InOneRun;
+struct InSinglePass;
 
-impl Decide for InOneRun {
-    ghost use Rattle.bb_run.specs.Seen.{CountsInOneRun};
+impl Decide for InSinglePass {
+    ghost use Rattle.bb_run.specs.Seen.{CountsInSinglePass};
 
-    ghost counts = { CountsInOneRun };
+    ghost counts = { CountsInSinglePass };
 
     #[inline(always)]
     fn decide<T: Tape>(
@@ -56,7 +56,7 @@ impl Decide for InOneRun {
         bench: &mut Bench<T>,
         meter: &mut Meter,
     ) -> Result<Verdict, Memory> {
-        decide_in_one_run(machine, limits, plan, &SpreadKeys, bench, meter)
+        decide_in_single_pass(machine, limits, plan, &SpreadKeys, bench, meter)
     }
 }
 
@@ -98,10 +98,10 @@ pub fn run_decide<R: Read, W: Write, T: Tape>(
     reply_to_lines::<R, W, T, InTurn>(reader, writer, limits, plan, bench, &counts)
 }
 
-/// Writes the same as [`run_decide`], but decides each machine in one run. The summary has the steps really
+/// Writes the same as [`run_decide`], but decides each machine in a single pass. The summary has the steps really
 /// made: fewer than there, if a verdict is early. A line is counted in `counts` once its reply is known,
 /// before it is written.
-pub fn run_decide_in_one_run<R: Read, W: Write, T: Tape>(
+pub fn run_decide_in_single_pass<R: Read, W: Write, T: Tape>(
     reader: &mut Watched<R>,
     writer: &mut Watched<W>,
     limits: &Limits,
@@ -115,7 +115,7 @@ pub fn run_decide_in_one_run<R: Read, W: Write, T: Tape>(
     requires path { depth_of bench.old.path ≡ limits.now.depth }
 
     // The result of the run, and the output written.
-    ensures ends { DecideInOneRunEnds limits.now plan
+    ensures ends { DecideInSinglePassEnds limits.now plan
         (R.remaining (watched_inner reader.old)) (R.remaining (watched_inner reader.new))
         (W.contents (watched_inner writer.old)) (W.contents (watched_inner writer.new)) result }
 
@@ -132,5 +132,5 @@ pub fn run_decide_in_one_run<R: Read, W: Write, T: Tape>(
     ensures path { depth_of bench.new.path ≡ depth_of bench.old.path }
 {
     texts_differ();
-    reply_to_lines::<R, W, T, InOneRun>(reader, writer, limits, plan, bench, counts)
+    reply_to_lines::<R, W, T, InSinglePass>(reader, writer, limits, plan, bench, counts)
 }

@@ -18,7 +18,7 @@ mod words;
 pub use checking::{run_check, run_check_with_counts};
 pub use cost::{CheckCost, LineCost, cost_of_check};
 pub use counts::{AnswerCounts, VerdictCounts};
-pub use deciding::{run_decide, run_decide_in_one_run};
+pub use deciding::{run_decide, run_decide_in_single_pass};
 pub use reply_validation::{KindCounts, Mismatch, ReplyCheck, ReplyKind, validate_replies};
 pub use rings::ring_bench;
 pub use summary::Summary;

@@ -6,7 +6,7 @@ use bb_decide::Plan;
 use bb_lines::fault::Fault;
 use bb_lines::watched::Watched;
 use bb_machine::Limits;
-use bb_run::{Summary, VerdictCounts, ring_bench, run_decide_in_one_run};
+use bb_run::{Summary, VerdictCounts, ring_bench, run_decide_in_single_pass};
 use std::process::ExitCode;
 
 /// Machines of two and three states with the most steps, a cycler, a translated cycler, and a wrong line.
@@ -43,5 +43,5 @@ fn decided(rt: &HostRuntime, limits: &Limits) -> Result<Summary, Fault> {
     let mut reader = Watched::new(LIST);
     let mut writer = Watched::new(rt.stdout());
     let counts = VerdictCounts::default();
-    run_decide_in_one_run(&mut reader, &mut writer, limits, ALL, &mut bench, &counts)
+    run_decide_in_single_pass(&mut reader, &mut writer, limits, ALL, &mut bench, &counts)
 }

@@ -12,7 +12,7 @@ mod serve;
 use bb_command::Stop;
 use bb_lines::fault::Fault;
 use bb_lines::watched::Watched;
-use bb_repetition::RecurrenceCounts;
+use bb_recurrence::RecurrenceCounts;
 use bb_run::Summary;
 use bb_terminal::arguments::{read_arguments, words_of};
 use bb_terminal::failures::{open_list, report_fault, report_stop};

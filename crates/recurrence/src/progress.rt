@@ -1,6 +1,6 @@
 //! The content of the progress line, and its conditions.
 
-use bb_repetition::RecurrenceCounts;
+use bb_recurrence::RecurrenceCounts;
 use bb_terminal::failures::is_output_kept;
 use std::fmt;
 use std::fmt::{Display, Formatter};

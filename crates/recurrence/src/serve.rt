@@ -1,14 +1,14 @@
 //! Replies to a list on rings of its own, and returns the result.
 ghost use Rattle.std.specs.Prelude.{◌≡◌, ◌↔◌, ◌⊎◌, false, true};
 ghost use Rattle.bb_lines.specs.Watched.{is_marked, watched_inner};
-ghost use Rattle.bb_repetition.specs.RecurrenceEnds.{RecurrenceEnds};
+ghost use Rattle.bb_recurrence.specs.RecurrenceEnds.{RecurrenceEnds};
 ghost use Rattle.bb_terminal.specs.NotBegun.{IsNotBegun};
 ghost use Rattle.recurrence.specs.Status.{end_status};
 
 use crate::command::Asked;
 use bb_lines::fault::Fault;
 use bb_lines::watched::Watched;
-use bb_repetition::{RecurrenceCounts, ring_tapes, run_recurrence};
+use bb_recurrence::{RecurrenceCounts, ring_tapes, run_recurrence};
 use bb_run::Summary;
 use std::alloc::Global;
 use std::io::{Read, Write};

@@ -30,7 +30,10 @@ struct List {
 
 static LISTS: [List; 2] = [
     List {
-        works: &[Work::Decide(Engine::InTurn), Work::Decide(Engine::InOneRun)],
+        works: &[
+            Work::Decide(Engine::InTurn),
+            Work::Decide(Engine::InSinglePass),
+        ],
         input: b"------\n\n------",
         output: b"------ halt 0 0\nrefused 1\n------ halt 0 0\n",
         written: &[(7, 16), (8, 26)],

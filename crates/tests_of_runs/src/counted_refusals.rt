@@ -8,7 +8,7 @@
 use crate::failed_allocations::refusing_bench;
 use crate::support::counting_tape::NEVER;
 use crate::support::rows::ALL;
-use bb_decide::{SpreadKeys, cyclers, decide_in_one_run, translated};
+use bb_decide::{SpreadKeys, cyclers, decide_in_single_pass, translated};
 use bb_machine::{Limits, Machine};
 use bb_sim::{Meter, simulate};
 use std::process::Abort;
@@ -21,7 +21,7 @@ enum Call {
     Simulate,
     Cyclers,
     Translated,
-    DecideInOneRun,
+    DecideInSinglePass,
 }
 
 /// The steps counted by a call after an allocation failure, by its tape, that of the run, the right or the
@@ -35,8 +35,15 @@ fn counted(rt: &(impl Abort + AllocGlobal), call: Call, before: [u64; 3]) -> u64
         Call::Simulate => simulate(&machine, &mut bench.run, &limits, &mut meter).is_err(),
         Call::Cyclers => cyclers(&machine, &limits, &mut bench, &mut meter).is_err(),
         Call::Translated => translated(&machine, &limits, &mut bench, &mut meter).is_err(),
-        Call::DecideInOneRun => {
-            decide_in_one_run(&machine, &limits, ALL, &SpreadKeys, &mut bench, &mut meter).is_err()
+        Call::DecideInSinglePass => {
+            decide_in_single_pass(
+                &machine,
+                &limits,
+                ALL,
+                &SpreadKeys,
+                &mut bench,
+                &mut meter,
+            ).is_err()
         }
     };
     assert!(rt; refused, "{call:?} after {before:?}");
@@ -49,7 +56,7 @@ fn steps_before_a_refused_write_are_counted(rt: HostRuntime) {
         Call::Simulate,
         Call::Cyclers,
         Call::Translated,
-        Call::DecideInOneRun,
+        Call::DecideInSinglePass,
     ] {
         for made in 0..6 {
             assert_eq!(rt; counted(&rt, call, [made, NEVER, NEVER]), made, "{call:?}");
@@ -63,7 +70,7 @@ fn steps_before_a_refused_copy_are_counted(rt: HostRuntime) {
         let before = [NEVER, kept as u64, NEVER];
         assert_eq!(rt; counted(&rt, Call::Cyclers, before), made);
     }
-    for call in [Call::Translated, Call::DecideInOneRun] {
+    for call in [Call::Translated, Call::DecideInSinglePass] {
         assert_eq!(rt; counted(&rt, call, [NEVER, 0, NEVER]), 1, "{call:?}");
         assert_eq!(rt; counted(&rt, call, [NEVER, NEVER, 0]), 3, "{call:?}");
         assert_eq!(rt; counted(&rt, call, [NEVER, NEVER, 1]), 4, "{call:?}");

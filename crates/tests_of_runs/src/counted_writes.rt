@@ -86,14 +86,14 @@ fn deciding_writes_once_a_step_and_twice_a_node(rt: HostRuntime) {
     }
 }
 
-/// In one run the first cycle is suspected and found, twice 4 steps, and the first agreeing records are found
+/// In a single pass the first cycle is suspected and found, twice 4 steps, and the first agreeing records are found
 /// at step 2; with fewer steps the run and the tree are made.
-static IN_ONE_RUN: [u64; 4] = [8, 3 + 16, 2, 1];
+static IN_SINGLE_PASS: [u64; 4] = [8, 3 + 16, 2, 1];
 
 #[test]
-fn deciding_in_one_run_writes_once_a_step_and_twice_a_node(rt: HostRuntime) {
-    for ((four, line, _), most) in OF_THREE_SYMBOLS.iter().zip(&IN_ONE_RUN) {
-        let (on_rings, on_maps) = writes_on_both(&rt, Engine::InOneRun, four, line);
+fn deciding_in_single_pass_writes_once_a_step_and_twice_a_node(rt: HostRuntime) {
+    for ((four, line, _), most) in OF_THREE_SYMBOLS.iter().zip(&IN_SINGLE_PASS) {
+        let (on_rings, on_maps) = writes_on_both(&rt, Engine::InSinglePass, four, line);
         assert!(rt; (1..=*most).contains(&on_rings), "{on_rings} on rings");
         assert_eq!(rt; on_maps, on_rings);
     }
@@ -105,7 +105,7 @@ static IN_REGISTERS: [u64; 4] = [0, 8, 0, 0];
 #[test]
 fn deciding_in_registers_writes_only_the_tree(rt: HostRuntime) {
     for ((four, line, _), most) in DECIDED.iter().zip(&IN_REGISTERS) {
-        let (on_rings, on_maps) = writes_on_both(&rt, Engine::InOneRun, four, line);
+        let (on_rings, on_maps) = writes_on_both(&rt, Engine::InSinglePass, four, line);
         assert!(rt; on_rings <= *most, "{on_rings} on rings");
         assert!(rt; on_maps <= *most, "{on_maps} on maps");
     }
@@ -118,7 +118,7 @@ const CHAMPION: &[u8] = b"1RB1LC_1RC1RB_1RD0LE_1LA1LD_1RZ0LA";
 fn a_block_changes_no_more_cells_than_its_steps(rt: HostRuntime) {
     for steps in [10_000, 100_000, 1_000_000] {
         let four = [steps, 65_536, 300, 1_000_000];
-        let (on_rings, _) = writes_on_both(&rt, Engine::InOneRun, &four, CHAMPION);
+        let (on_rings, _) = writes_on_both(&rt, Engine::InSinglePass, &four, CHAMPION);
         assert!(rt; (1..=steps).contains(&on_rings), "{on_rings} of {steps}");
     }
 }

@@ -5,7 +5,7 @@ use bb_cert::ring_pair;
 use bb_lines::watched::Watched;
 use bb_machine::Limits;
 use bb_run::{
-    AnswerCounts, VerdictCounts, ring_bench, run_check_with_counts, run_decide_in_one_run,
+    AnswerCounts, VerdictCounts, ring_bench, run_check_with_counts, run_decide_in_single_pass,
 };
 
 #[test]
@@ -22,7 +22,14 @@ fn verdicts_are_counted(rt: HostRuntime) {
     let mut reader = Watched::new(input.as_slice());
     let mut writer = Watched::new(Vec::new(rt.alloc()));
     let counts = VerdictCounts::default();
-    let end = run_decide_in_one_run(&mut reader, &mut writer, &limits, ALL, &mut bench, &counts);
+    let end = run_decide_in_single_pass(
+        &mut reader,
+        &mut writer,
+        &limits,
+        ALL,
+        &mut bench,
+        &counts,
+    );
     assert!(rt; end.is_ok());
     assert_eq!(rt;
         [

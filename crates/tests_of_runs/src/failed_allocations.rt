@@ -71,7 +71,7 @@ static OF_TWO_SYMBOLS: List = List {
 ",
 };
 
-/// The same machines with a symbol that none of them reads: deciding in one run doesn't keep them in
+/// The same machines with a symbol that none of them reads: deciding in a single pass doesn't keep them in
 /// registers.
 static OF_THREE_SYMBOLS: List = List {
     machines: b"1RB1LB---_1LA1RZ---
@@ -259,21 +259,21 @@ fn deciding_three_symbols_ends_at_each_refusal(rt: HostRuntime) {
     assert_refusals(&rt, Engine::InTurn, TREES, list, 4 + 64 + 8, 0);
 }
 
-/// In one run the second machine stops at its records; the third, without a 1, runs to its cycle and once
+/// In a single pass the second machine stops at its records; the third, without a 1, runs to its cycle and once
 /// more.
 #[test]
-fn deciding_in_one_run_ends_at_each_refusal(rt: HostRuntime) {
+fn deciding_in_single_pass_ends_at_each_refusal(rt: HostRuntime) {
     let list = &OF_THREE_SYMBOLS;
-    assert_refusals(&rt, Engine::InOneRun, PAIRS, list, 4 + 4, 2 + 2);
-    assert_refusals(&rt, Engine::InOneRun, TREES, list, 4 + 64 + 8, 0);
+    assert_refusals(&rt, Engine::InSinglePass, PAIRS, list, 4 + 4, 2 + 2);
+    assert_refusals(&rt, Engine::InSinglePass, TREES, list, 4 + 64 + 8, 0);
 }
 
 /// In registers no pair needs a tape. The tree does, and so do the second machine's steps past 32 cells.
 #[test]
 fn deciding_in_registers_ends_at_each_refusal(rt: HostRuntime) {
     let list = &OF_TWO_SYMBOLS;
-    assert_refusals(&rt, Engine::InOneRun, PAIRS, list, 0, 0);
-    assert_refusals(&rt, Engine::InOneRun, TREES, list, 16 + 4, 0);
+    assert_refusals(&rt, Engine::InSinglePass, PAIRS, list, 0, 0);
+    assert_refusals(&rt, Engine::InSinglePass, TREES, list, 16 + 4, 0);
 }
 
 /// Deciding is stopped by a refusal at least so many times, on the tape of the run and on the saved ones.

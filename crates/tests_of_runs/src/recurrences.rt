@@ -5,7 +5,7 @@ use bb_cert::{Answer, Line, read_line};
 use bb_lines::fault::Fault;
 use bb_lines::watched::Watched;
 use bb_machine::Limits;
-use bb_repetition::{Finding, LastUses, RecurrenceCounts, find, ring_tapes, run_recurrence};
+use bb_recurrence::{Finding, LastUses, RecurrenceCounts, find, ring_tapes, run_recurrence};
 use bb_run::Summary;
 use bb_sim::Meter;
 use bb_tape::Memory;

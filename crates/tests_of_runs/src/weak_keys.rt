@@ -1,10 +1,10 @@
-//! Deciding in one run with one key for all positions, so that different tapes often have one fingerprint: the
+//! Deciding in a single pass with one key for all positions, so that different tapes often have one fingerprint: the
 //! verdicts stay the same.
 
 use crate::decided_lists::decided_lists;
 use crate::support::rows::{ALL, Four, limits_of};
 use bb_cert::{Line, read_line};
-use bb_decide::{FingerprintKeys, Plan, SpreadKeys, decide_in_one_run};
+use bb_decide::{FingerprintKeys, Plan, SpreadKeys, decide_in_single_pass};
 use bb_run::ring_bench;
 use bb_sim::Meter;
 use std::process::Abort;
@@ -36,7 +36,7 @@ fn steps_with<K: FingerprintKeys>(
         panic!(rt; "{line} is a claim");
     };
     let mut meter = Meter::new();
-    let decided = decide_in_one_run(&machine, &limits, plan, keys, &mut bench, &mut meter)?;
+    let decided = decide_in_single_pass(&machine, &limits, plan, keys, &mut bench, &mut meter)?;
     assert_eq!(rt; decided, verdict, "{line}");
     Ok(meter.steps)
 }

@@ -12,7 +12,7 @@ The calls, documented by `help(budlarem.decide)` and so on:
 
     decide, decide_bytes, decide_lines      the verdicts on a list of machines
     check, check_bytes                      the checker's answers to a list of verdicts
-    recurrences, parse_recurrence           the exact repetition behind verdicts
+    recurrences, parse_recurrence           the exact recurrence behind verdicts
     parse, is_machine                       the verdict of a line; whether a text is a machine
     read                                    the machines of a list
     judge, compare                          the claims of others, or two lists

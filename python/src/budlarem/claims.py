@@ -52,7 +52,7 @@ _DASH = re.compile("^[-\u2013\u2014](?:\\s+|$)|(?:^|(?<!\\s)\\s+)[-\u2013\u2014]
 @dataclasses.dataclass(frozen=True)
 class Claim:
     """A line and its claim: a verdict, or the `word` of a record with the numbers beside it, or neither.
-    `start` and `period` are those of a repetition, in a record that has one of them. `trouble` is the reason why
+    `start` and `period` are those of a recurrence, in a record that has one of them. `trouble` is the reason why
     nothing is judged; `unjudged` has the cells of numbers that mean nothing beside the word. A refusal has its
     verdict, and no machine."""
 

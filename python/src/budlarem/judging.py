@@ -138,7 +138,7 @@ def judge(
 
     `undefined_steps`: they count a step for an undefined transition. By default their halts show it: each halt
     of theirs at such a transition is true of the machine with `1RZ` there, and there is one. `start_offset`: how
-    much later than the exact start they give each start of a repetition. By default it is the one difference of
+    much later than the exact start they give each start of a recurrence. By default it is the one difference of
     all starts, if that is above 0 and two different machines have it. Machines that are the same up to names and
     sides count as one. `missing` and `foreign` of the result compare with the machines `listed`.
 

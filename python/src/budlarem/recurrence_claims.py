@@ -1,6 +1,6 @@
 """Judges the starts and periods that others give, by the exact ones.
 
-The laws in `crates/laws_of_repetition` say what follows. A run repeats from a step on with a period exactly if the
+The laws in `crates/laws_of_recurrence` say what follows. A run repeats from a step on with a period exactly if the
 step is at least the exact start, and the period a multiple of the exact one. If the head is at the same position a
 period later, the configuration comes again. Otherwise the first record of the head's side, a period after the step
 or later, agrees with the step one period later; it comes before the head is beyond all positions visited by then.

@@ -1,4 +1,4 @@
-"""Whole lists in shards: the plan, the job of one shard, and the skeleton of the results.
+"""Complete lists in shards: the plan, the job of one shard, and the skeleton of the results.
 
 The folder of a sharded list has
 

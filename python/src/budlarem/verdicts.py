@@ -1,4 +1,4 @@
-"""Verdicts on machines, the answers of the checker, exact repetitions, and their lines."""
+"""Verdicts on machines, the answers of the checker, exact recurrences, and their lines."""
 
 from __future__ import annotations
 

@@ -1,4 +1,4 @@
-"""`normal` over whole lists, machines in other names, and the command."""
+"""`normal` over complete lists, machines in other names, and the command."""
 
 import random
 import sys

@@ -134,7 +134,7 @@ def test_words_and_verdicts_beside_numbers() -> None:
     assert found[5].reason.endswith("; start 4, period 1: exact")
 
 
-def test_offset_of_a_whole_list() -> None:
+def test_offset_of_a_complete_list() -> None:
     rows = [LEFT + ",%d,1", CYCLE + ",%d,2", LEFT + ",%d,3"]
     for offset, kinds in ((1, ["exact", "exact", "true"]), (0, ["exact", "exact", "true"]), (7, None)):
         given = [row % (start + offset) for row, start in zip(rows, (4, 0, 4))]

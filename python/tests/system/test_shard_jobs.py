@@ -128,7 +128,7 @@ def test_summary_and_holdouts(bb: str, list_machines: ListMachines, out: pathlib
 
 
 def test_recurrences(bb: str, list_machines: ListMachines, out: pathlib.Path) -> None:
-    """They are those of the whole list's pairs, by brute force; a shard that has others is done again."""
+    """They are those of the complete list's pairs, by brute force; a shard that has others is done again."""
     run("shards", out, *PLAN, "--recurrence")
     lines = replies([bb, "decide"], list_machines(3))
     pairs = [reply_to_pair(line) for line in lines if line.split(" ")[1] in ("cycler", "translated")]

@@ -1,4 +1,4 @@
-/** The exact repetition behind a pair: facts, last uses, and marks on the diagram. */
+/** The exact recurrence behind a pair: facts, last uses, and marks on the diagram. */
 import { formatCount, formatNumber, stateLetter } from "../../common/machine.mjs";
 import { byId, create, createFacts, createTable } from "../dom.mjs";
 import { WorkerClient } from "../worker-client.mjs";

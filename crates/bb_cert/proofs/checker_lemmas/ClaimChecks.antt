@@ -15,7 +15,7 @@ use Rattle.bb_cert.specs.declared.verdict.Verdict.{Verdict}
 use Rattle.bb_cert.specs.declared.verdict.Verdict.TheVariants.{Halt, Backward}
 use Rattle.bb_cert.specs.checker.Answer.{IsSettled}
 use Rattle.bb_cert.specs.inside.Checks.{Checks, IsCut, Settles}
-use Rattle.bb_cert.specs.inside.NarrowChecks.{AnswersPairs}
+use Rattle.bb_cert.specs.inside.RegisterChecks.{AnswersPairs}
 use Rattle.bb_cert.specs.checker.ClaimMeter.{CountsCheck, CountsClaim, CountsWindow, IsOfTree, IsReplayed}
 use Rattle.bb_cert.specs.checker.ClaimMeter.{IsWithinClaim, last_step, levels_of, nodes_of, replay_bounds}
 use Rattle.bb_tree.specs.Tree.{EndsWithin}

@@ -20,17 +20,17 @@ use Rattle.bb_sim.specs.Run.{HaltsAt}
 use Rattle.bb_sim.specs.Runner.{Stands, position_of, steps_of}
 use Rattle.bb_sim.specs.Span.{Inside, span}
 use Rattle.bb_sim.proofs.Facts.{fits_at_halt, inside_here, next_inside, span_grows}
-use Rattle.bb_narrow.specs.declared.registers.Registers.{Registers}
-use Rattle.bb_narrow.specs.declared.run.NarrowRun.{NarrowRun}
-use Rattle.bb_narrow.specs.BitCells.{bits_content}
-use Rattle.bb_narrow.specs.Registers.{EndsWith, IsNarrowRun, IsSameConfiguration, MatchesRunner}
-use Rattle.bb_narrow.proofs.Facts.{at_bit, bits_unique, by_bit, cell-in_word}
+use Rattle.bb_registers.specs.declared.registers.Registers.{Registers}
+use Rattle.bb_registers.specs.declared.run.RegisterRun.{RegisterRun}
+use Rattle.bb_registers.specs.BitCells.{bits_content}
+use Rattle.bb_registers.specs.Registers.{EndsWith, IsRegisterRun, IsSameConfiguration, MatchesRunner}
+use Rattle.bb_registers.proofs.Facts.{at_bit, bits_unique, by_bit, cell-in_word}
 use Rattle.bb_cert.specs.declared.records.Records.{Records}
 use Rattle.bb_cert.specs.declared.verdict.Extent.{Extent}
 use Rattle.bb_cert.specs.declared.verdict.Side.{Side}
 use Rattle.bb_cert.specs.declared.verdict.Verdict.TheVariants.{Cycler, Translated}
 use Rattle.bb_cert.specs.claims.Claim.{Claim}
-use Rattle.bb_cert.specs.inside.NarrowChecks.{AnswersPairs, answer_of}
+use Rattle.bb_cert.specs.inside.RegisterChecks.{AnswersPairs, answer_of}
 use Rattle.bb_cert.specs.records.Follow.{HasSameCells}
 use Rattle.bb_cert.proofs.claim_lemmas.Claims.{claims_never_halt}
 use Rattle.bb_cert.proofs.claim_lemmas.Standing.{AreAlike}
@@ -43,7 +43,7 @@ is_zero : (reads : Bool) → (IsTrue reads → ⊥) → from_bool reads ≡ 0
 is_zero true isnt = absurd (isnt refl)
 is_zero false isnt = refl
 
-module _ {table : Table} {bounds : Bounds} {run : NarrowRun} (known : IsNarrowRun table bounds run) where
+module _ {table : Table} {bounds : Bounds} {run : RegisterRun} (known : IsRegisterRun table bounds run) where
   -- the cell under the head is a bit
   bit_is : cell known.view.content (position_of known.runner) ≡ bit_at run.registers.bits known.at.place
   bit_is = ap (λ c. cell c (position_of known.runner)) known.at.content

@@ -23,7 +23,7 @@ use Rattle.bb_cert.specs.declared.checker.run.Run.TheVariants.{InRegisters, OnTa
 use Rattle.bb_cert.specs.inside.Runs.{IsKeptOnAll, IsViewAt, StandsSaved, StandsThere, made_of, saved_steps}
 use Rattle.bb_cert.specs.records.Agree.{AgreeingRecords}
 use Rattle.bb_cert.specs.inside.Checks.{GoesOn, IsReplay, KeepsStep, MakesRecord}
-use Rattle.bb_cert.specs.inside.NarrowChecks.{IsFollowedFromStart, IsKeptAt, IsKeptUpTo}
+use Rattle.bb_cert.specs.inside.RegisterChecks.{IsFollowedFromStart, IsKeptAt, IsKeptUpTo}
 use Rattle.bb_cert.specs.verdict.Extent.{IsExtent}
 use Rattle.bb_cert.specs.records.Follow.{AgreesWithKept, IsComparable, IsKeptInStateOf, LiesAs, with_kept}
 use Rattle.bb_cert.specs.records.Record.{IsRecord, head_at}
@@ -192,10 +192,10 @@ pub no_record : (table : Table) (bounds : Bounds) (replay : ReplayState) (run : 
     → IsKeptOnAll table replay.records.side (saved_steps run) (made_of run) replay
     → (IsTrue replay.is_record → ⊥)
     → AgreeingRecords table replay.records.side (saved_steps run) (made_of run) → ⊥
-no_record table bounds replay (InRegisters packed before) tape saved one other order kept none =
+no_record table bounds replay (InRegisters active before) tape saved one other order kept none =
     let here : IsViewAt table before.steps other.view =
     record { runner = other.runner; stands = other.stands; at = sym other.steps_is } in
-    let is : IsPairRun table replay.records.side before.steps packed.run.steps replay one.runner one.view other.view =
+    let is : IsPairRun table replay.records.side before.steps active.run.steps replay one.runner one.view other.view =
     record { kept = kept other.view here; stands = one.stands; at = sym one.steps_is; order = order } in
     no_pair_at is (λ makes. absurd (none makes))
 no_record table bounds replay (OnTape runner before) tape saved one other order kept none =

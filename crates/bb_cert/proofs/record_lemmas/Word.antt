@@ -4,8 +4,8 @@ use Rattle.std.proofs.lemmas.Int.{clamps, ints}
 use Rattle.bb_tape.specs.TapeView.{IsInside, IsStretch, TapeView, visited}
 use Rattle.bb_sim.specs.declared.runner.Runner.{Runner}
 use Rattle.bb_sim.specs.Runner.{position_of}
-use Rattle.bb_narrow.specs.declared.cells.BitCells.{BitCells}
-use Rattle.bb_narrow.specs.BitCells.{IsInWord, IsStretchInWord}
+use Rattle.bb_registers.specs.declared.cells.BitCells.{BitCells}
+use Rattle.bb_registers.specs.BitCells.{IsInWord, IsStretchInWord}
 use Rattle.bb_cert.specs.declared.records.Records.{Records}
 use Rattle.bb_cert.specs.records.Follow.{IsNarrow}
 use Rattle.bb_cert.specs.records.Word.{IsComparableInWord}

@@ -7,11 +7,11 @@ use Rattle.bb_sim.specs.declared.meter.Meter.{Meter}
 use Rattle.bb_sim.specs.declared.runner.Runner.{Runner}
 use Rattle.bb_sim.specs.Meter.{CountsRun, zero_meter}
 use Rattle.bb_sim.specs.Runner.{Stands, steps_of}
-use Rattle.bb_narrow.specs.declared.run.NarrowRun.{NarrowRun}
-use Rattle.bb_narrow.specs.Packed.{IsTableOf}
-use Rattle.bb_narrow.specs.Registers.{IsNarrowRun}
+use Rattle.bb_registers.specs.declared.run.RegisterRun.{RegisterRun}
+use Rattle.bb_registers.specs.Packed.{IsTableOf}
+use Rattle.bb_registers.specs.Registers.{IsRegisterRun}
 use Rattle.bb_cert.specs.declared.checker.answer.Answer.{Answer}
-use Rattle.bb_cert.specs.declared.checker.run.PackedRun.{PackedRun}
+use Rattle.bb_cert.specs.declared.checker.run.RunWithTable.{RunWithTable}
 use Rattle.bb_cert.specs.declared.checker.run.Run.{Run}
 use Rattle.bb_cert.specs.declared.checker.run.Run.TheVariants.{InRegisters, OnTape}
 use Rattle.bb_cert.specs.declared.checker.run.Progress.{Progress}
@@ -20,7 +20,7 @@ use Rattle.bb_cert.specs.inside.Checks.{IsUnderWay}
 use Rattle.bb_cert.specs.declared.checker.replay.ReplayState.{ReplayState}
 use Rattle.bb_cert.specs.declared.verdict.Extent.{Extent}
 use Rattle.bb_cert.specs.declared.verdict.Side.{Side}
-use Rattle.bb_cert.specs.inside.NarrowChecks.{AnswersPairs, IsKeptUpTo}
+use Rattle.bb_cert.specs.inside.RegisterChecks.{AnswersPairs, IsKeptUpTo}
 use Rattle.bb_cert.specs.records.Agree.{AgreeingRecords}
 use Rattle.bb_cert.specs.verdict.Extent.{IsExtent}
 
@@ -42,47 +42,47 @@ pub record IsSomewhere (holds : TapeView → Meter → Type 0) : Type 0 where
   pub is : holds tape meter
 
 -- a run is in registers, and nothing of it counted or on the tape beside it
-pub record IsPackedRun (table : Table) (bounds : Bounds) (packed : PackedRun) (tape : TapeView) (meter : Meter)
+pub record IsRunWithTable (table : Table) (bounds : Bounds) (active : RunWithTable) (tape : TapeView) (meter : Meter)
     : Type 0 where
   pub symbols : symbols_of table ≡ 2
-  pub is_table : IsTableOf table packed.table
-  pub is_run : IsNarrowRun table bounds packed.run
+  pub is_table : IsTableOf table active.table
+  pub is_run : IsRegisterRun table bounds active.run
   pub uncounted : meter ≡ zero_meter
 
 -- how many steps a run in registers has made
-abbrev pub packed_steps : PackedRun → ℕ
-packed_steps packed = packed.run.steps
+abbrev pub register_steps : RunWithTable → ℕ
+register_steps active = active.run.steps
 
 -- a run in registers, with an earlier configuration of it
-pub record IsPackedPair (table : Table) (bounds : Bounds) (packed : PackedRun) (saved : NarrowRun)
+pub record IsRegisterPair (table : Table) (bounds : Bounds) (active : RunWithTable) (saved : RegisterRun)
     (tape : TapeView) (meter : Meter) : Type 0 where
-  pub run : IsPackedRun table bounds packed tape meter
-  pub earlier : IsNarrowRun table bounds saved
-  pub order : saved.steps ≤ packed.run.steps
+  pub run : IsRunWithTable table bounds active tape meter
+  pub earlier : IsRegisterRun table bounds saved
+  pub order : saved.steps ≤ active.run.steps
 
 -- a run is under way, in registers or on the tape beside it
 abbrev pub IsRun : Table → Bounds → Run → TapeView → Meter → Type 0
-IsRun table bounds (InRegisters packed saved) tape meter = IsPackedPair table bounds packed saved tape meter
+IsRun table bounds (InRegisters active saved) tape meter = IsRegisterPair table bounds active saved tape meter
 IsRun table bounds (OnTape runner saved) tape meter = IsUnderWay table bounds runner tape meter
 
 -- how many steps it has made
 abbrev pub made_of : Run → ℕ
-made_of (InRegisters packed saved) = packed.run.steps
+made_of (InRegisters active saved) = active.run.steps
 made_of (OnTape runner saved) = steps_of runner
 
 -- how many it had made at the saved configuration
 abbrev pub saved_steps : Run → ℕ
-saved_steps (InRegisters packed saved) = saved.steps
+saved_steps (InRegisters active saved) = saved.steps
 saved_steps (OnTape runner saved) = steps_of saved
 
 -- the run stands in registers, or on this tape
 abbrev pub StandsThere : Table → Bounds → Run → TapeView → Type 0
-StandsThere table bounds (InRegisters packed saved) tape = IsNarrowRun table bounds packed.run
+StandsThere table bounds (InRegisters active saved) tape = IsRegisterRun table bounds active.run
 StandsThere table bounds (OnTape runner saved) tape = Stands table runner tape
 
 -- its saved configuration does
 abbrev pub StandsSaved : Table → Bounds → Run → TapeView → Type 0
-StandsSaved table bounds (InRegisters packed saved) tape = IsNarrowRun table bounds saved
+StandsSaved table bounds (InRegisters active saved) tape = IsRegisterRun table bounds saved
 StandsSaved table bounds (OnTape runner saved) tape = Stands table saved tape
 
 -- a tape of this view has the configuration of step n, and its window

@@ -2,8 +2,8 @@
 use Rattle.std.specs.Prelude.{◌≡◌}
 use Rattle.bb_tape.specs.TapeView.{TapeView}
 use Rattle.bb_sim.specs.declared.runner.Runner.{Runner}
-use Rattle.bb_narrow.specs.declared.cells.BitCells.{BitCells}
-use Rattle.bb_narrow.specs.BitCells.{IsInWord, content_of}
+use Rattle.bb_registers.specs.declared.cells.BitCells.{BitCells}
+use Rattle.bb_registers.specs.BitCells.{IsInWord, content_of}
 use Rattle.bb_cert.specs.declared.records.Records.{Records}
 use Rattle.bb_cert.specs.records.Follow.{HasSameCells, IsComparable, IsKeptInStateOf}
 

@@ -18,7 +18,7 @@ use crate::checker::course::Course;
 use crate::checker::pairs::{RecordPair, check_cycler, check_translated};
 use crate::verdict::Verdict;
 use bb_machine::{Limits, Machine};
-use bb_narrow::simulate_narrow;
+use bb_registers::simulate_in_registers;
 use bb_sim::{Meter, Outcome};
 use bb_tape::{Memory, RingTape, Tape};
 use bb_tree::{Path, walk};
@@ -235,7 +235,7 @@ fn check_halt<T: Tape>(
     ensures memory { OnErr result (IsTrue T.GROWS) }
 {
     let limits = limits.with_steps(steps);
-    match simulate_narrow(machine, tape, &limits, meter)? {
+    match simulate_in_registers(machine, tape, &limits, meter)? {
         Outcome::Halt {
             steps: made,
             score: found,

@@ -6,7 +6,7 @@ ghost use Rattle.bb_cert.specs.declared.verdict.Verdict.{Verdict};
 ghost use Rattle.bb_cert.specs.checker.ClaimMeter.{CountsClaim, IsWithinClaim};
 ghost use Rattle.bb_cert.specs.checker.Pair.{PairHasCells};
 ghost use Rattle.bb_cert.specs.inside.Checks.{Checks};
-ghost use Rattle.bb_cert.specs.inside.NarrowChecks.{claim_of};
+ghost use Rattle.bb_cert.specs.inside.RegisterChecks.{claim_of};
 ghost use Rattle.bb_cert.specs.inside.Runs.{IsKeptOnAll, MatchExtent, StandsSaved, StandsThere, made_of};
 ghost use Rattle.bb_cert.specs.inside.Runs.{saved_steps};
 
@@ -18,7 +18,7 @@ use crate::checker::run::Run;
 use crate::records::Records;
 use crate::verdict::{Extent, Side, Verdict};
 use bb_machine::{Limits, Machine};
-use bb_narrow::BitCells;
+use bb_registers::BitCells;
 use bb_sim::Meter;
 use bb_tape::{Memory, Tape};
 
@@ -145,9 +145,9 @@ fn agreeing_extent<T: Tape>(
         return None;
     }
     match run {
-        Run::InRegisters { packed, saved } => {
-            let runner = packed.run.runner(machine, limits);
-            let cells = BitCells::of_bits(packed.run.registers.bits);
+        Run::InRegisters { active, saved } => {
+            let runner = active.run.runner(machine, limits);
+            let cells = BitCells::of_bits(active.run.registers.bits);
             let saved_cells = BitCells::of_bits(saved.registers.bits);
             if !replay
                 .records

@@ -3,20 +3,20 @@ ghost use Rattle.std.specs.Prelude.{◌≡◌, ◌≤◌, false, IfOk, IsTrue, M
 ghost use Rattle.std.specs.Prelude.{OnErr, OnOk};
 ghost use Rattle.bb_sim.specs.Meter.{IsWithinRun, zero_meter};
 ghost use Rattle.bb_sim.specs.Runner.{steps_of};
-ghost use Rattle.bb_narrow.specs.Registers.{IsNarrowRun};
+ghost use Rattle.bb_registers.specs.Registers.{IsRegisterRun};
 ghost use Rattle.bb_cert.specs.checker.Pair.{PairHasCells};
 ghost use Rattle.bb_cert.specs.inside.Checks.{GoesOn, IsUnderWay, Passes, goes_further, goes_nowhere};
-ghost use Rattle.bb_cert.specs.inside.Runs.{IsAnswered, IsPackedPair, IsRun, MatchProgress};
-ghost use Rattle.bb_cert.specs.inside.Runs.{StandsSaved, made_of, packed_steps, saved_steps};
+ghost use Rattle.bb_cert.specs.inside.Runs.{IsAnswered, IsRegisterPair, IsRun, MatchProgress};
+ghost use Rattle.bb_cert.specs.inside.Runs.{StandsSaved, made_of, register_steps, saved_steps};
 ghost use Rattle.bb_cert.specs.records.Follow.{with_kept};
 
 use crate::checker::answer::Answer;
 use crate::checker::checking::Pair;
 use crate::checker::course::Course;
-use crate::checker::run::{PackedRun, Progress, Run, Steps};
+use crate::checker::run::{Progress, Run, RunWithTable, Steps};
 use crate::records::{Records, widened_side};
 use bb_machine::{Limits, Machine};
-use bb_narrow::NarrowRun;
+use bb_registers::RegisterRun;
 use bb_sim::{Meter, Runner};
 use bb_tape::{Memory, Tape};
 
@@ -153,10 +153,10 @@ pub(crate) fn run_to<C: Course + Copy, A: Course, T: Tape>(
     ensures tapes { PairHasCells T.view limits.now.cells pair.new }
     ensures memory { OnErr result (IsTrue T.GROWS) }
 {
-    if let Run::InRegisters { packed, saved } = run {
+    if let Run::InRegisters { active, saved } = run {
         match go_on(
             machine,
-            packed,
+            active,
             &mut pair.run,
             limits,
             step,
@@ -167,7 +167,7 @@ pub(crate) fn run_to<C: Course + Copy, A: Course, T: Tape>(
             Progress::There => return Ok(None),
             Progress::Cut(answer) => return Ok(Some(answer)),
             Progress::Outside => {
-                let runner = leave(machine, packed, saved, limits, pair, meter)?;
+                let runner = leave(machine, active, saved, limits, pair, meter)?;
                 let saved = saved.runner(machine, limits);
                 *run = Run::OnTape { runner, saved };
             }
@@ -198,18 +198,18 @@ pub(crate) fn run_to<C: Course + Copy, A: Course, T: Tape>(
 #[inline(never)]
 fn leave<T: Tape>(
     machine: &Machine,
-    packed: &PackedRun,
-    saved: &NarrowRun,
+    active: &RunWithTable,
+    saved: &RegisterRun,
     limits: &Limits,
     pair: &mut Pair<T>,
     meter: &mut Meter,
 ) -> Result<Runner, Memory>
-    requires run { IsPackedPair machine.now limits.now packed.now saved.now (T.view pair.old.run) meter.old }
+    requires run { IsRegisterPair machine.now limits.now active.now saved.now (T.view pair.old.run) meter.old }
     requires tapes { PairHasCells T.view limits.now.cells pair.old }
     ensures under_way { IfOk result (λ runner.
         IsUnderWay machine.now limits.now runner (T.view pair.new.run) meter.new) }
-    ensures steps { IfOk result (λ runner. steps_of runner ≡ packed_steps packed.now) }
-    ensures saved { (known : IsNarrowRun machine.now limits.now saved.now)
+    ensures steps { IfOk result (λ runner. steps_of runner ≡ register_steps active.now) }
+    ensures saved { (known : IsRegisterRun machine.now limits.now saved.now)
         → OnOk result (T.view pair.new.saved ≡ known.view) }
     ensures within { IsWithinRun limits.now zero_meter meter.new }
     ensures tapes { PairHasCells T.view limits.now.cells pair.new }
@@ -220,7 +220,7 @@ fn leave<T: Tape>(
     let Ok(()) = pair.saved.copy_from(&pair.run) else {
         return Err(Memory);
     };
-    let runner = packed.run.move_over(saved, machine, limits, &mut pair.run)?;
-    packed.run.count(packed.run.steps, limits, meter);
+    let runner = active.run.move_over(saved, machine, limits, &mut pair.run)?;
+    active.run.count(active.run.steps, limits, meter);
     Ok(runner)
 }

@@ -9,16 +9,16 @@ ghost use Rattle.bb_sim.specs.Runner.{steps_of};
 ghost use Rattle.bb_sim.specs.Span.{Inside};
 ghost use Rattle.bb_cert.specs.claims.Repeat.{Same};
 ghost use Rattle.bb_cert.specs.inside.Checks.{IsUnderWay};
-ghost use Rattle.bb_cert.specs.inside.NarrowChecks as checks;
+ghost use Rattle.bb_cert.specs.inside.RegisterChecks as checks;
 ghost use Rattle.bb_cert.specs.checker.Course.{IsReadAt, IsRunnerAt};
-ghost use Rattle.bb_cert.specs.inside.Runs.{IsAnswered, IsPackedRun, IsRun, IsSomewhere};
-ghost use Rattle.bb_cert.specs.inside.Runs.{MatchProgress, StandsSaved, StandsThere, made_of, packed_steps};
+ghost use Rattle.bb_cert.specs.inside.Runs.{IsAnswered, IsRunWithTable, IsRun, IsSomewhere};
+ghost use Rattle.bb_cert.specs.inside.Runs.{MatchProgress, StandsSaved, StandsThere, made_of, register_steps};
 ghost use Rattle.bb_cert.specs.inside.Runs.{saved_steps};
 
 use crate::checker::answer::Answer;
 use crate::checker::checking::Pair;
 use bb_machine::{Limits, Machine};
-use bb_narrow::{NarrowMoved, NarrowRun, NarrowTable, fits_registers};
+use bb_registers::{RegisterMove, RegisterRun, RegisterTable, fits_registers};
 use bb_sim::{Meter, Moved, Outcome, Runner, is_same};
 use bb_tape::{Memory, Tape};
 
@@ -82,15 +82,15 @@ pub(crate) trait Steps: Copy {
 
 /// A run in registers, not counted so far, with its machine's table.
 #[derive(Clone, Copy)]
-pub(crate) struct PackedRun {
-    pub(crate) run: NarrowRun,
-    pub(crate) table: NarrowTable,
+pub(crate) struct RunWithTable {
+    pub(crate) run: RegisterRun,
+    pub(crate) table: RegisterTable,
 }
 
-impl Steps for PackedRun {
-    ghost is_under_way = { IsPackedRun };
+impl Steps for RunWithTable {
+    ghost is_under_way = { IsRunWithTable };
 
-    ghost made = { packed_steps };
+    ghost made = { register_steps };
 
     ghost may_leave = { Unit {0} };
 
@@ -119,13 +119,13 @@ impl Steps for PackedRun {
     ) -> Result<Progress, Memory> {
         limits.show_accepted();
         match self.run.advance(machine, &self.table, limits) {
-            NarrowMoved::Stepped => Ok(Progress::There),
-            NarrowMoved::Ended(outcome) => {
+            RegisterMove::Stepped => Ok(Progress::There),
+            RegisterMove::Ended(outcome) => {
                 machine.show_machine();
                 self.run.count(self.run.last_step(outcome), limits, meter);
                 Ok(Progress::Cut(answer_of(outcome)))
             }
-            NarrowMoved::Outside => Ok(Progress::Outside),
+            RegisterMove::Outside => Ok(Progress::Outside),
         }
     }
 }
@@ -189,9 +189,15 @@ fn answer_of(outcome: Outcome) -> Answer
 #[derive(Clone, Copy)]
 pub(crate) enum Run {
     /// Both in registers.
-    InRegisters { packed: PackedRun, saved: NarrowRun },
+    InRegisters {
+        active: RunWithTable,
+        saved: RegisterRun,
+    },
     /// Each on a tape of a pair. The start isn't on the saved one.
-    OnTape { runner: Runner, saved: Runner },
+    OnTape {
+        runner: Runner,
+        saved: Runner,
+    },
 }
 
 impl Run {
@@ -213,10 +219,10 @@ impl Run {
         limits.show_accepted();
         if !T::GROWS {
             if fits_registers(machine) {
-                let table = NarrowTable::new(machine);
-                let run = NarrowRun::start(machine, limits);
-                let packed = PackedRun { run, table };
-                return Run::InRegisters { packed, saved: run };
+                let table = RegisterTable::new(machine);
+                let run = RegisterRun::start(machine, limits);
+                let active = RunWithTable { run, table };
+                return Run::InRegisters { active, saved: run };
             }
         }
         meter.begin_run();
@@ -234,7 +240,7 @@ impl Run {
         ensures { IsRunnerAt machine.now (made_of self.now) result }
     {
         match self {
-            Run::InRegisters { packed, .. } => packed.run.runner(machine, limits),
+            Run::InRegisters { active, .. } => active.run.runner(machine, limits),
             Run::OnTape { runner, .. } => *runner,
         }
     }
@@ -254,8 +260,8 @@ impl Run {
         ensures memory { OnErr result (IsTrue T.GROWS) }
     {
         match self {
-            Run::InRegisters { packed, saved } => {
-                *saved = packed.run;
+            Run::InRegisters { active, saved } => {
+                *saved = active.run;
             }
             Run::OnTape { runner, saved } => {
                 *saved = *runner;
@@ -284,7 +290,7 @@ impl Run {
         limits.show_accepted();
         machine.show_machine();
         match self {
-            Run::InRegisters { packed, .. } => packed.run.count(packed.run.steps, limits, meter),
+            Run::InRegisters { active, .. } => active.run.count(active.run.steps, limits, meter),
             Run::OnTape { .. } => {}
         }
     }
@@ -298,7 +304,7 @@ impl Run {
             → (IsTrue result ↔ Same table (saved_steps self.now) (made_of self.now)) }
     {
         match self {
-            Run::InRegisters { packed, saved } => packed.run.has_same_configuration(saved),
+            Run::InRegisters { active, saved } => active.run.has_same_configuration(saved),
             Run::OnTape { runner, saved } => is_same(runner, &pair.run, saved, &pair.saved),
         }
     }

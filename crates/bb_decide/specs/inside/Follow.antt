@@ -28,7 +28,7 @@ pub record IsSearched (table : Table) (n : ℕ) (records : Records) (saved : Tap
 pub record IsReady (records : Records) (runner : Runner) (saved run : TapeView) : Type 0 where
   pub kept_out : pos 0 ≤ℤ number_of records
   pub head_out : pos 0 ≤ℤ top_of records runner
-  pub narrow : IsNarrow (position_of records.kept)
+  pub held : IsNarrow (position_of records.kept)
   pub comparable : IsKeptInStateOf records runner → IsComparable records runner saved run
 
 -- it is kept, in what the run has, where its number is at least twice that of the kept one, which stays

@@ -16,7 +16,7 @@ use Rattle.bb_sim.specs.Meter.{CountsPart, CountsRun, CountsTo, IsWithinRun}
 use Rattle.bb_sim.specs.Outcome.{IsOutcome}
 use Rattle.bb_sim.specs.Run.{Never}
 use Rattle.bb_sim.specs.Span.{span}
-use Rattle.bb_narrow.specs.Registers.{FitsRegisters}
+use Rattle.bb_registers.specs.Registers.{FitsRegisters}
 use Rattle.bb_cert.specs.declared.verdict.Verdict.{Verdict}
 use Rattle.bb_cert.specs.declared.verdict.Verdict.TheVariants.{Halt, Cycler, Translated, Undecided}
 use Rattle.bb_cert.specs.declared.verdict.Why.TheVariants as why
@@ -26,7 +26,7 @@ use Rattle.bb_decide.specs.declared.search_result.SearchResult.{SearchResult}
 use Rattle.bb_decide.specs.declared.search_result.SearchResult.TheVariants.{Found, Ran}
 use Rattle.bb_decide.specs.Cycle.{CountsSearch, HasNoCycle, IsFirstCycle}
 use Rattle.bb_decide.specs.Fingerprint.{AgreesByChance, CostsWhatItNames, most_steps, named_step}
-use Rattle.bb_decide.specs.OneRun.{IsStoppedAt, LeavesRegisters, MakesRuns}
+use Rattle.bb_decide.specs.SinglePassCost.{IsStoppedAt, LeavesRegisters, MakesRuns}
 use Rattle.bb_decide.specs.Translation.{FindsTranslation, HasNoTranslation, IsFirstTranslation}
 use Rattle.bb_decide.specs.inside.Search.{IsPromised, SearchesFind}
 

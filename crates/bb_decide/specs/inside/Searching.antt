@@ -6,13 +6,13 @@ use Rattle.bb_machine.specs.Machine.{Table}
 use Rattle.bb_tape.specs.TapeView.{TapeView}
 use Rattle.bb_sim.specs.declared.runner.Runner.{Runner}
 use Rattle.bb_sim.specs.Runner.{Stands, position_of, state_of, steps_of}
-use Rattle.bb_narrow.specs.Registers.{FitsRegisters}
+use Rattle.bb_registers.specs.Registers.{FitsRegisters}
 use Rattle.bb_cert.specs.declared.records.Records.{Records}
 use Rattle.bb_cert.specs.declared.verdict.Side.{Side}
 use Rattle.bb_cert.specs.declared.verdict.Side.TheVariants.{L, R}
 use Rattle.bb_decide.specs.Cycle.{IsCycle}
 use Rattle.bb_decide.specs.Fingerprint.{fingerprint}
-use Rattle.bb_decide.specs.OneRun.{LooksAgain}
+use Rattle.bb_decide.specs.SinglePassCost.{LooksAgain}
 use Rattle.bb_decide.specs.Partner.{IsKept}
 use Rattle.bb_decide.specs.Translation.{IsTranslation}
 use Rattle.bb_decide.specs.inside.Follow.{IsSearched}

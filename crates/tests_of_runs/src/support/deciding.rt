@@ -64,7 +64,7 @@ fn decided_on_rings(
     decided(rt, engine, &mut bench, limits, plan, input)
 }
 
-/// Decides a list on maps, on rings and in one run, with the same output. Returns it with the summary, which
+/// Decides a list on maps, on rings and in a single pass, with the same output. Returns it with the summary, which
 /// the two tapes share.
 pub(crate) fn decided_each_way(
     rt: &(impl Abort + AllocGlobal),
@@ -76,7 +76,7 @@ pub(crate) fn decided_each_way(
     let (ring_end, ring_output) = decided_on_rings(rt, Engine::InTurn, limits, plan, input);
     assert_eq!(rt; ring_output.as_slice(), output.as_slice());
     assert_eq!(rt; ring_end, end);
-    let (one_end, one_output) = decided_on_rings(rt, Engine::InOneRun, limits, plan, input);
+    let (one_end, one_output) = decided_on_rings(rt, Engine::InSinglePass, limits, plan, input);
     assert_eq!(rt; one_output.as_slice(), output.as_slice());
     let summary = end.expect(rt, "no fault");
     assert_eq!(rt; one_end.expect(rt, "no fault").clean, summary.clean);

@@ -8,7 +8,7 @@ use bb_decide::{Bench, Plan};
 use bb_lines::fault::Fault;
 use bb_lines::watched::Watched;
 use bb_machine::Limits;
-use bb_run::{Summary, VerdictCounts, run_decide, run_decide_in_one_run};
+use bb_run::{Summary, VerdictCounts, run_decide, run_decide_in_single_pass};
 use bb_tape::Tape;
 use std::io::{Read, Write};
 
@@ -17,12 +17,12 @@ use std::io::{Read, Write};
 pub(crate) enum Engine {
     /// By the definition of a verdict, one search after the other.
     InTurn,
-    /// Each in one run.
-    InOneRun,
+    /// Each in a single pass.
+    InSinglePass,
 }
 
 impl Engine {
-    pub(crate) const BOTH: [Engine; 2] = [Engine::InTurn, Engine::InOneRun];
+    pub(crate) const BOTH: [Engine; 2] = [Engine::InTurn, Engine::InSinglePass];
 
     /// Decides a list.
     pub(crate) fn decide<R: Read, W: Write, T: Tape>(
@@ -42,9 +42,9 @@ impl Engine {
     {
         match self {
             Engine::InTurn => run_decide(reader, writer, limits, plan, bench),
-            Engine::InOneRun => {
+            Engine::InSinglePass => {
                 let counts = VerdictCounts::default();
-                run_decide_in_one_run(reader, writer, limits, plan, bench, &counts)
+                run_decide_in_single_pass(reader, writer, limits, plan, bench, &counts)
             }
         }
     }

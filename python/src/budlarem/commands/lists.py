@@ -43,7 +43,7 @@ With --cost nothing is checked. The output is one line: the most steps and nodes
 most expensive line with its steps and nodes. The status is 0."""
 
 
-_RECURRENCE = """Finds the exact repetition behind the pairs of verdict lines of any origin, and writes a reply to
+_RECURRENCE = """Finds the exact recurrence behind the pairs of verdict lines of any origin, and writes a reply to
 each line, the bytes of the program recurrence. A pair that the checker confirms gets MACHINE recurs START PERIOD
 SHIFT, and the last use of each state: a step, * for ever, or - never. ` quasihalts N` follows if one is a step; N
 is the greatest plus 1. Other replies: bad, the pair isn't true; over, it exceeds the limits, or its run needs more
@@ -94,7 +94,7 @@ def add_check(commands: Subcommands) -> None:
     columns = [("answer", "ok, bad, over, open or unread")]
     check = add_command(commands, "check", do_check, "check verdict lines", _CHECK, columns)
     columns = [("reply", "MACHINE recurs START PERIOD SHIFT USE ..; bad, over, open or unread")]
-    help = "the exact repetition behind verdict lines"
+    help = "the exact recurrence behind verdict lines"
     recurrence = add_command(commands, "recurrence", do_recurrence, help, _RECURRENCE, columns)
     for parser, names in ((check, [*Limits.RANGES]), (recurrence, ["steps", "cells"])):
         add_file(parser)
@@ -231,7 +231,7 @@ Numbers may have groups of three digits, as 47,176,870.
 Some lists count a step into ---. This is assumed, and printed, if THEIRS has a halt at a ---, and each such halt
 is true of the machine with 1RZ there. --undefined-steps sets it beforehand.
 
-In a table, columns of the start and the period of a repetition are judged by the exact numbers (`budlarem help
+In a table, columns of the start and the period of a recurrence are judged by the exact numbers (`budlarem help
 recurrence`): exact; true, but later or a multiple; or false, with the right numbers. If our verdict has no pair,
 theirs is checked as one. If all starts are later than the exact ones by one number, and are those of two machines
 or more, that offset is printed and taken off. Mirror images and machines in other names count as one there.

@@ -8,7 +8,7 @@ from ..settling import confirm_list, settle
 from .shared import ListReader, Subcommands, add_command, add_limits, limits_in
 
 _SETTLE = """Writes the verdict of each MACHINE from a complete list in tree normal form, such as those of
-docs/whole-lists.md. The list has a line for all machines that do the same up to mirror images and other names; its
+docs/complete-lists.md. The list has a line for all machines that do the same up to mirror images and other names; its
 verdict settles them, and each verdict written is confirmed by the checker.
 
 The limits are those that the list was made with. First the program cover, found in the PATH, confirms the list, and

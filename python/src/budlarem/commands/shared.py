@@ -45,7 +45,7 @@ _ROLES = {
     "verdict": ("--verdict", "the column of verdicts, or of words such as halt and nonhalt"),
     "steps": ("--steps-column", "the column of the steps of a halt"),
     "score": ("--score", "the column of the scores"),
-    "start": ("--start", "the column of the first steps of repetitions"),
+    "start": ("--start", "the column of the first steps of recurrences"),
     "period": ("--period", "the column of their periods"),
 }
 

@@ -3,9 +3,9 @@ use Rattle.std.proofs.lemmas.Int.{ints}
 use Rattle.bb_tape.specs.TapeView.{TapeView}
 use Rattle.bb_sim.specs.Runner.{steps_of}
 use Rattle.bb_sim.proofs.Facts.{count_is_within, inside_here}
-use Rattle.bb_narrow.specs.Registers.{FitsRegisters}
-use Rattle.bb_narrow.proofs.Facts.{counted_so_far}
-use Rattle.bb_decide.proofs.NarrowHandover.{fits_so_far}
+use Rattle.bb_registers.specs.Registers.{FitsRegisters}
+use Rattle.bb_registers.proofs.Facts.{counted_so_far}
+use Rattle.bb_decide.proofs.RegisterHandover.{fits_so_far}
 use Rattle.bb_decide.proofs.single_pass.leave_registers.Goals as goal
 
 pub count-requires-clause-cells : goal.count-requires-clause-cells

@@ -1,5 +1,5 @@
 use Rattle.std.proofs.Common.{◌≡◌, ◌↔◌, Bool, false, IsTrue, sym, ap, ◌∙◌}
-use Rattle.bb_narrow.specs.Registers.{IsNarrowRun}
+use Rattle.bb_registers.specs.Registers.{IsRegisterRun}
 use Rattle.bb_cert.specs.inside.Runs.{IsViewAt, made_of, saved_steps}
 use Rattle.bb_cert.specs.records.Follow.{AgreesWithKept, IsKeptInStateOf}
 use Rattle.bb_cert.specs.records.Word.{AgreesInWord, IsComparableInWord}
@@ -24,10 +24,10 @@ returns-then-not-replay-clause-agree g c =
 -- ---- in registers
 
 module _ (g : given.Over) (c : After-of_bits-saved_cells g) where
-  one : IsNarrowRun c.args.machine.now c.args.limits.now c.in-InRegisters.packed.run
+  one : IsRegisterRun c.args.machine.now c.args.limits.now c.in-InRegisters.active.run
   one = rw c.in-InRegisters.is at c.requires.run
 
-  other : IsNarrowRun c.args.machine.now c.args.limits.now c.in-InRegisters.saved
+  other : IsRegisterRun c.args.machine.now c.args.limits.now c.in-InRegisters.saved
   other = rw c.in-InRegisters.is at c.requires.saved
 
   in_registers : IsPairRun c.args.machine.now c.args.replay.now.records.side

@@ -1,7 +1,7 @@
 use Rattle.std.proofs.Common.{◌≡◌, Bool, true, false, sym, subst, ◌∙◌}
 use Rattle.bb_tape.specs.TapeView.{TapeView}
 use Rattle.bb_cert.specs.inside.Runs.{IsViewAt, made_of, saved_steps}
-use Rattle.bb_cert.specs.inside.NarrowChecks.{IsKeptUpTo}
+use Rattle.bb_cert.specs.inside.RegisterChecks.{IsKeptUpTo}
 use Rattle.bb_cert.proofs.checker_lemmas.ClaimChecks.{fits_inside}
 use Rattle.bb_cert.proofs.record_lemmas.KeptReplays.{followed_from_start, follows_on, kept_there, stands_there}
 use Rattle.bb_cert.proofs.verdict_lemmas.Extents.{said_as_found}

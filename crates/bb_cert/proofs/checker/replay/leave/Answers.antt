@@ -1,6 +1,6 @@
 use Rattle.std.proofs.Common.{◌∙◌, arith}
 use Rattle.bb_sim.proofs.Facts.{inside_here}
-use Rattle.bb_narrow.proofs.Facts.{counted_so_far}
+use Rattle.bb_registers.proofs.Facts.{counted_so_far}
 use Rattle.bb_cert.specs.inside.Checks.{IsUnderWay}
 use Rattle.bb_cert.proofs.record_lemmas.UnderWay.{under_way_within}
 use Rattle.bb_cert.proofs.checker.replay.leave.Given as given

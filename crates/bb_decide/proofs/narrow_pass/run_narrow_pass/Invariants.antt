@@ -1,9 +1,0 @@
-use Rattle.std.proofs.Common.{◌-◌}
-use Rattle.bb_decide.specs.inside.NarrowPass.{IsInNarrowPass}
-use Rattle.bb_decide.proofs.narrow_pass.run_narrow_pass.Given as goal
-
-abbrev pub invariant-loop-result : goal.invariant-loop-result
-invariant-loop-result l = IsInNarrowPass l.machine l.limits l.pass
-
-abbrev pub decreases-loop-result : goal.decreases-loop-result
-decreases-loop-result l = l.limits.steps - l.pass.run.steps

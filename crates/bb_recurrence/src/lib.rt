@@ -1,0 +1,23 @@
+//! Exact recurrence of machines that never halt: the first step from which on a run repeats, its period, its
+//! shift, and the last use of each state and entry; and the replies to a list.
+#![tactic(auto)]
+
+mod counts;
+mod factors;
+mod history;
+pub mod laws;
+mod lockstep;
+mod period;
+pub mod recurrence;
+mod recurrences;
+mod rings;
+mod text;
+pub mod uses;
+pub mod verdict;
+
+pub use counts::RecurrenceCounts;
+pub use recurrence::{Recurrence, Tapes, find_recurrence};
+pub use recurrences::run_recurrence;
+pub use rings::ring_tapes;
+pub use uses::{LastUse, LastUses};
+pub use verdict::{Finding, find};

@@ -1,0 +1,11 @@
+use Rattle.bb_registers.proofs.InBlocks.{goes_on_again}
+use Rattle.bb_registers.proofs.blocks.simulate_in_blocks.Goals as goal
+
+pub returns-in_default-clause-within : goal.returns-in_default-clause-within
+returns-in_default-clause-within g c begun counts =
+    let still = goes_on_again c.loop-from.invariant c.find_block.ensures.goes in
+    c.simulate_from.ensures.within begun (still.counts begun counts)
+
+pub loop-from-preserved : goal.loop-from-preserved
+loop-from-preserved g c =
+    goes_on_again (goes_on_again c.loop-from.invariant c.in-Some.ensures.goes) c.run_block.ensures

@@ -1,0 +1,18 @@
+//! Runs of machines of two symbols and at most seven states, in registers while they stay within 64 cells:
+//! the bits of one number.
+#![tactic(auto)]
+
+pub mod blocks;
+pub mod cells;
+pub mod handover;
+pub mod registers;
+pub mod run;
+pub mod simulation;
+pub mod table;
+
+pub use blocks::{Barrier, BlockRun};
+pub use cells::BitCells;
+pub use registers::Registers;
+pub use run::{RegisterMove, RegisterRun};
+pub use simulation::{fits_registers, simulate_in_registers};
+pub use table::RegisterTable;

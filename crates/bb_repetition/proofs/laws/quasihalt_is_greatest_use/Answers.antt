@@ -1,5 +1,0 @@
-use Rattle.bb_repetition.proofs.RecurrenceLaws.{quasihalt_is_greatest_use}
-use Rattle.bb_repetition.proofs.laws.quasihalt_is_greatest_use.Goals as goal
-
-pub returns : goal.returns
-returns c = quasihalt_is_greatest_use

@@ -1,5 +1,0 @@
-use Rattle.bb_repetition.proofs.EntryUses.{none_seen}
-use Rattle.bb_repetition.proofs.uses.LastUses.new.Goals as goal
-
-pub returns : goal.returns
-returns c = λ table machine q s below inside. none_seen table machine q s below inside

@@ -1,6 +1,0 @@
-use Rattle.bb_repetition.proofs.Quasihalts.{IsGreatestUse}
-use Rattle.bb_repetition.proofs.uses.LastUses.quasihalt.Given as goal
-
--- the last uses of the first states are taken in
-abbrev pub invariant-loop-state : goal.invariant-loop-state
-invariant-loop-state l = IsGreatestUse l.machine l.state l.steps

@@ -1,0 +1,6 @@
+pub mod Pairs
+pub mod Recurrence
+pub mod Seen
+pub mod Shift
+pub mod Uses
+pub mod Verdicts

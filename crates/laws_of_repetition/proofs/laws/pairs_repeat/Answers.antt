@@ -1,8 +1,0 @@
-use Rattle.laws_of_repetition.proofs.Pairs.{cyclers_repeat, translated_cyclers_repeat}
-use Rattle.laws_of_repetition.proofs.laws.pairs_repeat.Goals as goal
-
-pub returns-clause-cyclers : goal.returns-clause-cyclers
-returns-clause-cyclers c = cyclers_repeat
-
-pub returns-clause-translated : goal.returns-clause-translated
-returns-clause-translated c = translated_cyclers_repeat c.agreeing_records_go_on.ensures.alike

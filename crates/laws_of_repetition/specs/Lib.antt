@@ -1,6 +1,0 @@
-pub mod Pairs
-pub mod Repetition
-pub mod Seen
-pub mod Shift
-pub mod Uses
-pub mod Verdicts
