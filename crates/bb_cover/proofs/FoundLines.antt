@@ -13,7 +13,7 @@ use Rattle.bb_sim.specs.Span.{Inside}
 use Rattle.bb_sim.proofs.Facts.{halt_is_unique}
 use Rattle.laws_of_verdicts.specs.LineOf.{IsOnWay}
 use Rattle.laws_of_verdicts.specs.UndefinedEntry.{HaltsOnUndefined, HasOtherUndefined}
-use Rattle.laws_of_verdicts.proofs.Facts.{halts_on_undefined, halts_there, own_place, undefined_named}
+use Rattle.laws_of_verdicts.proofs.Facts.{halts_on_undefined, halts_there, own_place, same_place, undefined_named}
 use Rattle.bb_cover.specs.declared.halt.Halted.{Halted}
 use Rattle.bb_cover.specs.declared.line.How.{How}
 use Rattle.bb_cover.specs.declared.line.How.TheVariants.{Runs, Halts}
@@ -28,18 +28,6 @@ use Rattle.bb_cover.specs.UndefinedEntries.{HaltsOn, IsUndefinedOf}
 use Rattle.bb_machine.specs.declared.machine.TheConstants.{MAX_STATES, MAX_SYMBOLS}
 use Rattle.bb_machine.specs.Entry.{IsEntryOf}
 use Rattle.bb_machine.proofs.Facts.{entry_named}
-
--- a machine halts on one `---`
-same_place : (table : Table) (n m q s p r : ℕ) → HaltsOnUndefined table n q s → HaltsOnUndefined table m p r
-    → (p ≡ q) × (r ≡ s)
-same_place table n m q s p r one two =
-    let at : n ≡ m = halt_is_unique table n m (halts_there table n q s one) (halts_there table m p r two) in
-    let there : conf table n ≡ Some two.last = ap (conf table) at ∙ two.exists in
-    let first = one.exists in
-    let same : two.last ≡ one.last = cc (there, first) in
-    let state : next.State p ≡ next.State q =
-    sym two.in_state ∙ ap (λ (c : Configuration). c.state) same ∙ one.in_state in
-    (cc, sym two.at_symbol ∙ ap (λ (c : Configuration). cell c.tape c.head) same ∙ one.at_symbol)
 
 module _ (change : Naming) (bounds : Bounds) (table machine : Table)
     (on : IsOnWay (change_of change) bounds table machine) where

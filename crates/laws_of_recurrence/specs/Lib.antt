@@ -1,3 +1,4 @@
+pub mod Lines
 pub mod Pairs
 pub mod Recurrence
 pub mod Seen

@@ -1,4 +1,5 @@
 //! Laws of repeating runs, as contracts. A call of each does nothing.
+ghost use Rattle.laws_of_recurrence.specs.Lines.{LinesKeepRecurrences};
 ghost use Rattle.laws_of_recurrence.specs.Pairs.{LateRecordsArePairs, RepeatsHavePairs};
 ghost use Rattle.laws_of_recurrence.specs.Recurrence.{CyclersRepeat, ExactExists, ExactIsUnique};
 ghost use Rattle.laws_of_recurrence.specs.Recurrence.{ExactTellsAll, PeriodsAreMultiples};
@@ -91,3 +92,9 @@ pub fn verdicts_have_exact_period()
     agreeing_records_go_on();
     records_in_order();
 }
+
+/// A machine recurs as its line in a complete list. Start, period and the steps to a quasihalt are the same. The
+/// shift is on the other side where left and right are swapped, and the last uses are those of the new names.
+pub fn lines_keep_recurrences()
+    ensures { LinesKeepRecurrences }
+{}

@@ -25,9 +25,9 @@ use Rattle.bb_cert.specs.verdict.Extent.{IsExtent, SaysExtent, TellsExtent}
 use Rattle.bb_decide.specs.Cycle.{HasNoCycle, IsCycle, IsFirstCycle}
 use Rattle.bb_cert.proofs.Facts.{records_in_order}
 use Rattle.bb_decide.specs.Translation.{AgreesWithPartner, IsFirstTranslation, IsTranslation}
-use Rattle.laws_of_verdicts.specs.Change.{Change, IsChanged, changed_next, turned_side}
+use Rattle.laws_of_verdicts.specs.Change.{Change, IsChanged, changed_next, placed, turned_side}
 use Rattle.laws_of_verdicts.proofs.ChangedRuns.{AreImages, ImageOf, conf_image, image_is_one, image_of}
-use Rattle.laws_of_verdicts.proofs.ChangedRuns.{cell_at, next_image, no_image, placed, placed-add}
+use Rattle.laws_of_verdicts.proofs.ChangedRuns.{cell_at, next_image, no_image, placed-add}
 use Rattle.laws_of_verdicts.proofs.ChangedRuns.{placed-subtract, placed-twice, placed-zero}
 
 least_alike : (f g : ℕ → ℤ) (n : ℕ) → ((m : ℕ) → m ≤ n → f m ≡ g m) → least f n ≡ least g n

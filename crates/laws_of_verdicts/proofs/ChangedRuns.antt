@@ -1,6 +1,6 @@
 -- Why the run of a changed machine is the image of the machine's own.
 use Rattle.std.proofs.Common.{◌≡◌, ◌≢◌, ◌↔◌, ℕ, zero, suc, ◌<◌, min, Bool, true, false, Option, Some, None}
-use Rattle.std.proofs.Common.{ℤ, pos, neg_ℤ, ◌+ℤ◌, ◌-ℤ◌, option_and_then, refl, ap, ap₂, sym, subst, ◌∙◌}
+use Rattle.std.proofs.Common.{ℤ, pos, ◌+ℤ◌, ◌-ℤ◌, option_and_then, refl, ap, ap₂, sym, subst, ◌∙◌}
 use Rattle.std.proofs.Common.{arith}
 use Rattle.std.proofs.lemmas.Int.{ints}
 use Rattle.bb_machine.specs.declared.entry.Dir.{Dir}
@@ -18,7 +18,7 @@ use Rattle.bb_sim.specs.Run.{after, conf}
 use Rattle.bb_sim.proofs.Facts.{led}
 use Rattle.bb_sim.proofs.Facts.{conf-start}
 use Rattle.bb_cert.proofs.Facts.{moves}
-use Rattle.laws_of_verdicts.specs.Change.{Change, IsChanged, Renaming, changed_entry, changed_next, turned}
+use Rattle.laws_of_verdicts.specs.Change.{Change, IsChanged, Renaming, changed_entry, changed_next, placed, turned}
 
 -- the change back
 
@@ -44,7 +44,7 @@ turned-twice false to = refl
 turned-twice true dir.L = refl
 turned-twice true dir.R = refl
 
-next-back : (change : Change) (to : Next) → changed_next (back change) (changed_next change to) ≡ to
+pub next-back : (change : Change) (to : Next) → changed_next (back change) (changed_next change to) ≡ to
 next-back change (State q) = ap State (change.states.old_of_new q)
 next-back change Halt = refl
 
@@ -80,11 +80,6 @@ changed_back change table changed is = record {
   )
 
 -- positions
-
--- a position, on the other side of the start where left and right are swapped
-abbrev pub placed : Bool → ℤ → ℤ
-placed false p = p
-placed true p = neg_ℤ p
 
 pub placed-zero : (mirrored : Bool) → placed mirrored (pos 0) ≡ pos 0
 placed-zero false = refl

@@ -20,8 +20,8 @@ use Rattle.bb_machine.specs.Machine.{Table, IsGroup, IsMachine, entry_of, symbol
 use Rattle.bb_tree.specs.Tree.{Node, rules_in, rules_from, goes_to, is_same, leads_to, rules_to}
 use Rattle.bb_tree.specs.Tree.{with_known, halting_node, left_cell, may_be, seen_from, before_by_entry}
 use Rattle.bb_tree.specs.Tree.{before_by, before, level, nodes_below}
-use Rattle.laws_of_verdicts.specs.Change.{Change, IsChanged, Renaming, changed_entry, changed_next, turned}
-use Rattle.laws_of_verdicts.proofs.ChangedRuns.{placed, placed-add, placed-twice, placed-zero}
+use Rattle.laws_of_verdicts.specs.Change.{Change, IsChanged, Renaming, changed_entry, changed_next, placed, turned}
+use Rattle.laws_of_verdicts.proofs.ChangedRuns.{placed-add, placed-twice, placed-zero}
 use Rattle.laws_of_verdicts.proofs.Sums.{length-sum, sum_by-each, sum_by-flat_map, sum_by-map, sum_from}
 use Rattle.laws_of_verdicts.proofs.Sums.{sum_from-each, sum_from-renamed}
 

@@ -1,5 +1,5 @@
 -- One change after another, and changes of machines with one entry more.
-use Rattle.std.proofs.Common.{◌≡◌, ◌↔◌, ℕ, ◌<◌, Bool, true, false, length, inl, inr}
+use Rattle.std.proofs.Common.{◌≡◌, ◌↔◌, ℕ, ◌<◌, Bool, true, false, Some, length, inl, inr}
 use Rattle.std.proofs.Common.{refl, ap, ap₂, sym, ◌∙◌, arith}
 use Rattle.bb_machine.specs.declared.entry.Dir.{Dir}
 use Rattle.bb_machine.specs.declared.entry.Dir.TheVariants as dir
@@ -8,13 +8,16 @@ use Rattle.bb_machine.specs.declared.entry.Entry.TheVariants.{Undefined, Go}
 use Rattle.bb_machine.specs.declared.entry.Next.{Next}
 use Rattle.bb_machine.specs.declared.entry.Next.TheVariants.{State, Halt}
 use Rattle.bb_machine.specs.Machine.{Table, IsMachine, entry_of, symbols_of}
-use Rattle.bb_sim.specs.Run.{Never}
+use Rattle.bb_sim.specs.Configuration.{Configuration}
+use Rattle.bb_sim.specs.Run.{Never, conf}
 use Rattle.laws_of_verdicts.specs.Change.{Change, IsChanged, Renaming, changed_entry, changed_next, either}
 use Rattle.laws_of_verdicts.specs.Change.{turned}
 use Rattle.laws_of_verdicts.specs.Closed.{with_entry}
+use Rattle.laws_of_verdicts.specs.LineOf.{CompletesChanged}
 use Rattle.laws_of_verdicts.specs.UndefinedEntry.{HaltsOnUndefined, HasOtherUndefined}
-use Rattle.laws_of_verdicts.proofs.ChangedRuns.{back, changed_back, cell_at, conf_image, image_of}
+use Rattle.laws_of_verdicts.proofs.ChangedRuns.{ImageOf, back, changed_back, cell_at, conf_image, image_of}
 use Rattle.laws_of_verdicts.proofs.ChangedNotions.{halts_image}
+use Rattle.laws_of_verdicts.proofs.Completions.{completions_never_halt, conf_kept}
 use Rattle.laws_of_verdicts.proofs.Fillings.{HasNoZ, entry-either, entry-other, entry-same, length-with_entry}
 use Rattle.laws_of_verdicts.proofs.Fillings.{symbols_of-with_entry}
 
@@ -120,6 +123,24 @@ never_changed change table changed is never = record {
   never = λ n halts. never.never n (halts_image (back change) changed table
       (changed_back change table changed is) n halts);
 }
+
+-- each configuration of a machine has its image in the run of one that completes it after a change
+pub line_image : (change : Change) (table machine : Table) → CompletesChanged change table machine → (n : ℕ)
+    (c : Configuration) → conf table n ≡ Some c → ImageOf change c (conf machine n)
+line_image change table machine done n c at =
+    let image = image_of change (conf table n) (conf done.changed n) c
+    (conf_image change table done.changed done.is_changed n) at in
+    record {
+      there = image.there;
+      exists = conf_kept done.changed machine done.completes n image.there image.exists;
+      image = image.image;
+    }
+
+-- so this one never halts either
+pub never_there : (change : Change) (table machine : Table) → CompletesChanged change table machine → Never table
+    → Never machine
+never_there change table machine done never = completions_never_halt done.changed machine done.completes
+    (never_changed change table done.changed done.is_changed never)
 
 pub undefined_changed : (change : Change) (table changed : Table) → IsChanged change table changed → (n q s : ℕ)
     → HaltsOnUndefined table n q s → HaltsOnUndefined changed n (change.states.new q) (change.symbols.new s)

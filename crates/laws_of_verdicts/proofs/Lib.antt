@@ -15,5 +15,6 @@ mod LaterSteps
 mod LinesOf
 mod NormalForms
 mod Sums
+mod UniqueLines
 mod Walks
 mod Shards

@@ -26,8 +26,8 @@ use Rattle.bb_cert.proofs.Facts.{claims_never_halt}
 use Rattle.laws_of_verdicts.specs.Change.{Change, IsChanged, changed_entry, changed_next, changed_verdict}
 use Rattle.laws_of_verdicts.specs.Change.{either, swapped, turned}
 use Rattle.laws_of_verdicts.specs.Closed.{FromUndefined, blank_table, with_entry}
-use Rattle.laws_of_verdicts.specs.LineOf.{HaltsThrough, IsAlwaysListed, IsLineOf}
-use Rattle.laws_of_verdicts.specs.LineOf.{IsOnWay, LinesKeepAnswers, LinesKeepPairs, LinesSettle}
+use Rattle.laws_of_verdicts.specs.LineOf.{HaltsThrough, IsAlwaysListed, IsBelow, IsChild, IsInWalk, IsLineOf, Itself}
+use Rattle.laws_of_verdicts.specs.LineOf.{IsOnWay, LinesKeepAnswers, LinesKeepPairs, LinesSettle, Through}
 use Rattle.laws_of_verdicts.specs.NormalForm.{Asks, IsEmpty, IsInNormalForm, Lists}
 use Rattle.laws_of_verdicts.specs.UndefinedEntry.{HaltsOnUndefined, HasOtherUndefined}
 use Rattle.laws_of_verdicts.specs.Walk.{Uses}
@@ -36,7 +36,7 @@ use Rattle.laws_of_verdicts.proofs.ChangedRuns.{back, changed_back, conf_image, 
 use Rattle.laws_of_verdicts.proofs.Changes.{changes_keep_answers, changes_keep_claims, changes_keep_verdicts}
 use Rattle.laws_of_verdicts.proofs.Completions.{completions_keep_answers, completions_keep_claims}
 use Rattle.laws_of_verdicts.proofs.Completions.{completions_keep_verdicts, completions_never_halt, unchanged}
-use Rattle.laws_of_verdicts.proofs.Composed.{composed, filled_changed, is_composed, never_changed}
+use Rattle.laws_of_verdicts.proofs.Composed.{composed, filled_changed, is_composed, never_there}
 use Rattle.laws_of_verdicts.proofs.Composed.{no_Z_before, other_undefined_changed, undefined_changed}
 use Rattle.laws_of_verdicts.proofs.Covers.{still_completes}
 use Rattle.laws_of_verdicts.proofs.Fillings.{HasNoZ, blank_machine, blank_table-none, length-with_entry, machine-with_entry}
@@ -98,6 +98,7 @@ begins change bounds machine is mirrors own_states own_symbols =
       no_Z = λ q s write move e. let none = blank_table-none n k q s in cc (e, none);
       listed = λ lines is_list has. subst (λ x. Lists lines (blank_table x k)) states
           (subst (λ x. Lists lines (blank_table (length root) x)) symbols is_list.has_root);
+      walked = subst (IsBelow bounds root) (sym (ap₂ blank_table states symbols)) Itself;
     }
 
 -- one entry more
@@ -114,6 +115,13 @@ halts_there table n q s undefined =
       exists = undefined.exists;
       no_next = ap (λ x. followed x undefined.last) entry;
     }
+
+-- a walk goes on to a child of its last machine
+walk_on : (bounds : Bounds) (table child from : Table) → IsChild bounds table child → IsBelow bounds table from
+    → IsBelow bounds child from
+walk_on bounds table child from last Itself = Through table child last Itself
+walk_on bounds table child from last (Through above next step below) =
+    Through from next step (walk_on bounds table child next last below)
 
 -- the names of a machine's entry in its line
 module _ (old : Change) (bounds : Bounds) (table machine : Table) (is : IsMachine machine)
@@ -267,6 +275,33 @@ module _ (old new : Change) (bounds : Bounds) (table machine : Table) (is : IsMa
         | inr left ↦ absurd (right left.0 left.1)
       ]
 
+  walked : IsInWalk bounds filled_line
+  walked =
+      let fits = small in
+      let fits_too = low in
+      subst (IsBelow bounds filled_line)
+      (sym (ap₂ blank_table (length-with_entry table q s filling) (symbols_of-with_entry table q s filling)))
+      (walk_on bounds table filled_line (blank_table (length table) (symbols_of table)) (record {
+        steps = n;
+        state = q;
+        symbol = s;
+        undefined = undefined;
+        inside = inside;
+        other = other;
+        states = states;
+        symbols = symbols;
+        uses = uses;
+        write = min w symbols;
+        to = min l states;
+        move = turned swap there;
+        has_symbol = omega (arith, fits);
+        has_state = omega (arith, fits_too);
+        few_symbols = omega arith;
+        few_states = omega arith;
+        right = right;
+        is_child = refl;
+      }) on.walked)
+
   pub goes_on : new.mirrored ≡ either swap old.mirrored
       → ((x : ℕ) → new.states.new x ≡ old.states.new (swapped (min l states) l x))
       → ((x : ℕ) → new.symbols.new x ≡ old.symbols.new (swapped (min w symbols) w x))
@@ -298,6 +333,7 @@ module _ (old new : Change) (bounds : Bounds) (table machine : Table) (is : IsMa
         no_Z = λ i j a d. (no_Z-with_entry table on.is_machine q s (min w symbols) (min l states)
             (turned swap there) both.0 both.1 (record { none = on.no_Z })).none i j a d;
         listed = listed;
+        walked = walked;
       }
 
 -- what a verdict on the line tells
@@ -311,9 +347,8 @@ module _ (change : Change) (bounds : Bounds) (table machine : Table) (is : IsMac
   no_entry_into_Z = record { none = line.on_way.no_Z }
 
   never_halts : (verdict : Verdict) → Claim table verdict → SaysNever verdict → Never machine
-  never_halts verdict claim says = completions_never_halt changed_line machine line.on_way.completed.completes
-      (never_changed change table changed_line line.on_way.completed.is_changed
-      (claims_never_halt table verdict line.on_way.is_machine says claim))
+  never_halts verdict claim says = never_there change table machine line.on_way.completed
+      (claims_never_halt table verdict line.on_way.is_machine says claim)
 
   module _ (n ones : ℕ) (claim : Claim table (Halt n ones)) (inside : Inside table bounds n)
       (there : HaltsInTable table n) where

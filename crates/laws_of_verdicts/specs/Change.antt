@@ -1,6 +1,6 @@
 -- Changes of a machine that preserve its behaviour: left and right swapped, its states renamed, its symbols
 -- renamed. These notions are this project's own.
-use Rattle.std.specs.Prelude.{◌≡◌, ℕ, ◌<◌, ◌↔◌, Bool, true, false, cond, length, nat_eq}
+use Rattle.std.specs.Prelude.{◌≡◌, ℕ, ◌<◌, ◌↔◌, Bool, true, false, cond, length, nat_eq, ℤ, neg_ℤ}
 use Rattle.bb_machine.specs.declared.entry.Dir.{Dir}
 use Rattle.bb_machine.specs.declared.entry.Dir.TheVariants as dir
 use Rattle.bb_machine.specs.declared.entry.Entry.{Entry}
@@ -49,6 +49,11 @@ abbrev pub turned_side : Bool → Side → Side
 turned_side false on = on
 turned_side true side.L = side.R
 turned_side true side.R = side.L
+
+-- a position, or a distance, where left and right are swapped
+abbrev pub placed : Bool → ℤ → ℤ
+placed false p = p
+placed true p = neg_ℤ p
 
 -- whether just one of two is true
 abbrev pub either : Bool → Bool → Bool

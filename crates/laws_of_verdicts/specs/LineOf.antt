@@ -1,7 +1,8 @@
 -- The line of a machine: the machine of a list in normal form whose verdict settles it. These notions are
 -- this project's own.
-use Rattle.std.specs.Prelude.{◌≡◌, ◌≢◌, ℕ, List, length, Contains}
+use Rattle.std.specs.Prelude.{◌≡◌, ◌≢◌, ℕ, ◌<◌, ◌≤◌, List, length, Contains}
 use Rattle.bb_machine.specs.declared.entry.Dir.{Dir}
+use Rattle.bb_machine.specs.declared.entry.Dir.TheVariants as dir
 use Rattle.bb_machine.specs.declared.entry.Entry.TheVariants.{Go}
 use Rattle.bb_machine.specs.declared.entry.Next.TheVariants as next
 use Rattle.bb_machine.specs.declared.plan.Plan.{Plan}
@@ -16,10 +17,11 @@ use Rattle.bb_cert.specs.checker.Answer.{IsAnswer}
 use Rattle.bb_cert.specs.claims.Claim.{Claim}
 use Rattle.bb_decide.specs.Verdict.{IsVerdict}
 use Rattle.laws_of_verdicts.specs.Change.{Change, IsChanged, changed_verdict}
-use Rattle.laws_of_verdicts.specs.Closed.{FromUndefined, VerdictLine}
+use Rattle.laws_of_verdicts.specs.Closed.{FromUndefined, VerdictLine, blank_table, with_entry}
 use Rattle.laws_of_verdicts.specs.Completion.{IsCompletion}
-use Rattle.laws_of_verdicts.specs.NormalForm.{IsInNormalForm, Lists}
+use Rattle.laws_of_verdicts.specs.NormalForm.{IsEmpty, IsInNormalForm, Lists}
 use Rattle.laws_of_verdicts.specs.UndefinedEntry.{HaltsOnUndefined, HasOtherUndefined}
+use Rattle.laws_of_verdicts.specs.Walk.{Uses}
 
 -- the second machine completes the first one after a change
 pub record CompletesChanged (change : Change) (table machine : Table) : Type 0 where
@@ -38,7 +40,41 @@ abbrev pub IsAlwaysListed : Bounds → Table → Type 0
 IsAlwaysListed bounds table = (lines : List VerdictLine)
     → IsInNormalForm lines (length table) (symbols_of table) → ListsHalts bounds lines → Lists lines table
 
--- the first machine is in each such list, has no entry into Z, and the second completes it after this change
+-- the first machine halts inside the bounds on one of several `---`, and the second one has there an entry that
+-- leads to a state: it names at most the first unused state and symbol, and is the first entry only if it moves
+-- to the right
+pub record IsChild (bounds : Bounds) (table child : Table) : Type 0 where
+  pub steps : ℕ
+  pub state : ℕ
+  pub symbol : ℕ
+  pub undefined : HaltsOnUndefined table steps state symbol
+  pub inside : Inside table bounds steps
+  pub other : HasOtherUndefined table state symbol
+  pub states : ℕ
+  pub symbols : ℕ
+  pub uses : Uses table states symbols
+  pub write : ℕ
+  pub to : ℕ
+  pub move : Dir
+  pub has_symbol : write < symbols_of table
+  pub has_state : to < length table
+  pub few_symbols : write ≤ symbols
+  pub few_states : to ≤ states
+  pub right : move ≡ dir.L → IsEmpty table → ⊥
+  pub is_child : child ≡ with_entry table state symbol (Go write move (next.State to))
+
+-- the walk leads to this machine from another one, through children
+pub data IsBelow (bounds : Bounds) (table : Table) : Table → Type 0 where
+  Itself : IsBelow bounds table table
+  Through : (from child : Table) → IsChild bounds from child → IsBelow bounds table child
+      → IsBelow bounds table from
+
+-- the walk through the machines of its size comes to this one
+abbrev pub IsInWalk : Bounds → Table → Type 0
+IsInWalk bounds table = IsBelow bounds table (blank_table (length table) (symbols_of table))
+
+-- the first machine is in the walk and in each such list, has no entry into Z, and the second completes it after
+-- this change
 pub record IsOnWay (change : Change) (bounds : Bounds) (table machine : Table) : Type 0 where
   pub is_machine : IsMachine table
   pub states : length table ≡ length machine
@@ -46,6 +82,7 @@ pub record IsOnWay (change : Change) (bounds : Bounds) (table machine : Table) :
   pub completed : CompletesChanged change table machine
   pub no_Z : (q s write : ℕ) (dir : Dir) → entry_of table q s ≢ Go write dir next.Halt
   pub listed : IsAlwaysListed bounds table
+  pub walked : IsInWalk bounds table
 
 -- and no list need go on to another one that the second completes: where the first halts inside the bounds on
 -- one of several `---`, the second has no entry there that leads to a state
@@ -100,3 +137,8 @@ abbrev pub LinesKeepAnswers : Type 0
 LinesKeepAnswers = (change : Change) (table machine : Table) (bounds : Bounds) (verdict : Verdict)
     → IsMachine table → CompletesChanged change table machine → IsPair verdict
     → IsAnswer table bounds verdict Ok → IsAnswer machine bounds (changed_verdict change verdict) Ok
+
+-- a machine has one line
+abbrev pub LinesAreUnique : Type 0
+LinesAreUnique = (first second : Change) (bounds : Bounds) (table other machine : Table)
+    → IsLineOf first bounds table machine → IsLineOf second bounds other machine → table ≡ other

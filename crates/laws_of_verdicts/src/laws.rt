@@ -7,7 +7,8 @@ ghost use Rattle.laws_of_verdicts.specs.Completion.{CompletionsKeepVerdicts, Com
 ghost use Rattle.laws_of_verdicts.specs.EveryStart.{EveryStartHaltsSoonOrNever};
 ghost use Rattle.laws_of_verdicts.specs.Found.{CyclersAreFound};
 ghost use Rattle.laws_of_verdicts.specs.UndefinedEntry.{FilledEntriesHaltNext, UndefinedEntriesKeepHalts};
-ghost use Rattle.laws_of_verdicts.specs.LineOf.{LinesKeepAnswers, LinesKeepPairs, LinesSettle};
+ghost use Rattle.laws_of_verdicts.specs.LineOf.{LinesAreUnique, LinesKeepAnswers};
+ghost use Rattle.laws_of_verdicts.specs.LineOf.{LinesKeepPairs, LinesSettle};
 ghost use Rattle.laws_of_verdicts.specs.LaterSteps.{CyclersComeAgain, TranslatedCyclersMoveOn};
 ghost use Rattle.laws_of_verdicts.specs.NormalForm.{NormalFormCovers};
 ghost use Rattle.laws_of_verdicts.specs.Walk.{WalksAreInNormalForm, WalksCompose};
@@ -108,4 +109,10 @@ pub fn lines_settle()
     ensures settle { LinesSettle }
     ensures pair { LinesKeepPairs }
     ensures answer { LinesKeepAnswers }
+{}
+
+/// A machine has one line within given limits. The change needn't be unique: names that the line doesn't use may
+/// differ.
+pub fn lines_are_unique()
+    ensures { LinesAreUnique }
 {}
