@@ -16,7 +16,7 @@ use Rattle.bb_cover.specs.declared.task.Form.TheVariants.{Verdicts}
 use Rattle.bb_cover.specs.declared.task.Task.{Task}
 use Rattle.bb_cover.specs.Claims.{AreTrueLines, IsTrueLine}
 use Rattle.bb_cover.specs.Content.{Item, line_of, lines_of, verdict_of}
-use Rattle.bb_cover.specs.Counts.{AreCounts, assumed_texts, greatest_of, halt_score, halt_steps, is_among, of_claim}
+use Rattle.bb_cover.specs.Counts.{AreCounts, assumed_texts, greatest_of, halt_score, halt_steps, is_among, marks_of, of_claim}
 use Rattle.bb_cover.specs.Covering.{AreParts, BoundsSize, CoversRoot, IsPart, IsWholeWalk, joined}
 use Rattle.bb_cover.proofs.Parts.{joins}
 
@@ -75,7 +75,7 @@ covers_root None lines n k none covers = covers.0
 covers_root below lines n k none covers = absurd cc
 
 module _ (task : Task) (all : List (List ℕ)) (counts : Counts) (n k : ℕ) (whole : IsWholeWalk task all n k)
-    (counted : AreCounts (assumed_texts task) whole.items counts) where
+    (counted : AreCounts (marks_of task) whole.items counts) where
   tells : TellsAtMost (lines_of whole.items) counts.most_steps counts.most_score
   tells = record {
     steps = λ line steps score has says.

@@ -17,7 +17,7 @@ use Rattle.bb_cover.specs.declared.counts.Counts.{Counts}
 use Rattle.bb_cover.specs.declared.task.Task.{Task}
 use Rattle.bb_cover.specs.Claims.{AreTrueLines, IsTrueLine}
 use Rattle.bb_cover.specs.Content.{Item, line_of, lines_of}
-use Rattle.bb_cover.specs.Counts.{AreCounts, HasTotals, assumed_texts, is_undecided, is_wide, lines_in}
+use Rattle.bb_cover.specs.Counts.{AreCounts, HasTotals, marks_of, is_undecided, is_wide, lines_in}
 use Rattle.bb_cover.specs.Counts.{sum_of, undecided_in, wide_in}
 use Rattle.bb_cover.specs.Covering.{AreParts, CoversRoot, IsJoinedWalk, IsPart, IsWalkBelow}
 use Rattle.bb_cover.specs.Covering.{IsWholeWalk, joined, root_of}
@@ -154,7 +154,7 @@ counts_add p a b = sum_by-append (λ x. cond (p x) 1 0) a b
 -- all of it
 
 module _ (task : Task) (all : List (List ℕ)) (counts : Counts) (n k : ℕ) (whole : IsWholeWalk task all n k)
-    (counted : AreCounts (assumed_texts task) whole.items counts) (parts : List (List VerdictLine))
+    (counted : AreCounts (marks_of task) whole.items counts) (parts : List (List VerdictLine))
     (are : AreParts whole.items parts) where
   below_root : IsWalkBelow (root_of task.below n k) (joined parts)
   below_root = record {

@@ -1,6 +1,6 @@
 -- How many lines of each kind there are, with one line more.
-use Rattle.std.proofs.Common.{◌≡◌, ℕ, ◌+◌, ◌<◌, ◌≤◌, ◌^◌, Bool, true, false, cond, List, [], ◌∷◌, ◌++◌}
-use Rattle.std.proofs.Common.{length, refl, ap, rules, sym, subst, ◌∙◌, arith, length-append}
+use Rattle.std.proofs.Common.{◌≡◌, ℕ, ◌+◌, ◌<◌, ◌≤◌, ◌^◌, suc, Bool, true, false, cond, List, [], ◌∷◌, ◌++◌, Option}
+use Rattle.std.proofs.Common.{length, refl, ap, ap₂, rules, sym, subst, ◌∙◌, arith, length-append}
 use Rattle.std.specs.Prelude.{count_by, max}
 use Rattle.std.proofs.lemmas.List.Sums.{sum_by-append}
 use Rattle.bb_machine.specs.Machine.{Table}
@@ -17,7 +17,7 @@ use Rattle.bb_cover.specs.Counts.{AreCounts, counted, counted_claim, counted_con
 use Rattle.bb_cover.specs.Counts.{is_claim_of, is_cycler, is_halt, is_shard, is_translated, is_undecided, is_wide}
 use Rattle.bb_cover.specs.CoverProgress.{HasRoom}
 use Rattle.bb_cover.specs.Counts.{greatest_of, halt_score, halt_steps, is_assumed_in, lines_in, more_if, no_counts}
-use Rattle.bb_cover.specs.Counts.{of_claim, saturated, sum_of, undecided_in, wide_in}
+use Rattle.bb_cover.specs.Counts.{Marks, is_sought, of_claim, place_of, place_or, placed, saturated, sum_of, undecided_in, wide_in}
 
 -- a content of which a walk may be told
 
@@ -167,18 +167,40 @@ module _ (all : List Item) (are : AreCountable all) (few : sum_of all_in all < 2
   few_wide = few_sums (λ item. wide_in item.table item.content)
       (λ item is. wide_below item.table item.content is)
 
-pub none_counted : (texts : List (List ℕ)) → AreCounts texts [] no_counts
-none_counted texts = search rules
+pub none_counted : (marks : Marks) → AreCounts marks [] no_counts
+none_counted marks = search rules
+
+-- the number of the last item with the machine that is sought, with one item more
+place_with : (sought : Option (List ℕ)) (items : List Item) (item : Item)
+    → place_of sought (items ++ item ∷ []) ≡ cond (is_sought sought item.table) (length items + 1) (place_of sought items)
+place_with sought [] item = refl
+place_with sought (x ∷ items) item = ap (place_or (is_sought sought x.table)) (place_with sought items item)
+    ∙ by (is_sought sought item.table) where
+  by : (found : Bool) → place_or (is_sought sought x.table) (cond found (length items + 1) (place_of sought items))
+      ≡ cond found (length (x ∷ items) + 1) (place_of sought (x ∷ items))
+  by true =
+      let one : length items + 1 ≡ suc (length items) = omega arith in
+      let two : suc (suc (length items)) ≡ suc (length items) + 1 = omega arith in
+      ap (place_or (is_sought sought x.table)) one ∙ two
+  by false = refl
+
+place_more : (sought : Option (List ℕ)) (items : List Item) (item : Item) (read place : ℕ) → read ≡ length items
+    → place ≡ place_of sought items → length (items ++ item ∷ []) < 2 ^ 64
+    → cond (is_sought sought item.table) (saturated (read + 1)) place ≡ place_of sought (items ++ item ∷ [])
+place_more sought items item read place is_read is_place few =
+    let all = length-append items (item ∷ []) in
+    let next : saturated (read + 1) ≡ length items + 1 = omega (arith, is_read, few, all) in
+    ap₂ (cond (is_sought sought item.table)) next is_place ∙ sym (place_with sought items item)
 
 abbrev with_one : List Item → Table → Content → List Item
 with_one items table content = items ++ record { table = table; content = content } ∷ []
 
-claim_counted : (texts : List (List ℕ)) (items : List Item) (table : Table) (verdict : Verdict) (old : Counts)
+claim_counted : (marks : Marks) (items : List Item) (table : Table) (verdict : Verdict) (old : Counts)
     → AreCountable (with_one items table (Claim verdict))
-    → sum_of all_in (with_one items table (Claim verdict)) < 2 ^ 64 → AreCounts texts items old
-    → AreCounts texts (with_one items table (Claim verdict))
-    (counted_claim texts old (record { table = table; verdict = verdict }))
-claim_counted texts items table verdict old may few are =
+    → sum_of all_in (with_one items table (Claim verdict)) < 2 ^ 64 → AreCounts marks items old
+    → AreCounts marks (with_one items table (Claim verdict))
+    (counted_claim marks.assumed (placed marks.sought old table) (record { table = table; verdict = verdict }))
+claim_counted marks items table verdict old may few are =
     let item : Item = record { table = table; content = Claim verdict } in
     let all = items ++ item ∷ [] in
     let kinds = few_kinds all may few in
@@ -198,18 +220,19 @@ claim_counted texts items table verdict old may few are =
       wide = sum_if (λ i. wide_in i.table i.content) items item
           (is_wide (record { table = table; verdict = verdict })) old.wide refl are.wide
           (few_wide all may few);
-      assumed = kind_more (λ i. is_assumed_in texts i.table i.content) items item old.assumed are.assumed
+      assumed = kind_more (λ i. is_assumed_in marks.assumed i.table i.content) items item old.assumed are.assumed
           (kinds _);
       most_steps = greatest_with (λ i. of_claim halt_steps i.content) items item old.most_steps are.most_steps;
       most_score = greatest_with (λ i. of_claim halt_score i.content) items item old.most_score are.most_score;
+      place = place_more marks.sought items item old.read old.place are.read are.place (few_read all may few);
       few = subst (λ n. n < 2 ^ 64) (sym lines) few;
     }
 
-shard_counted : (texts : List (List ℕ)) (items : List Item) (table : Table) (shard : ShardCounts) (old : Counts)
+shard_counted : (marks : Marks) (items : List Item) (table : Table) (shard : ShardCounts) (old : Counts)
     → AreCountable (with_one items table (Shard shard))
-    → sum_of all_in (with_one items table (Shard shard)) < 2 ^ 64 → AreCounts texts items old
-    → AreCounts texts (with_one items table (Shard shard)) (counted_shard old shard)
-shard_counted texts items table shard old may few are =
+    → sum_of all_in (with_one items table (Shard shard)) < 2 ^ 64 → AreCounts marks items old
+    → AreCounts marks (with_one items table (Shard shard)) (counted_shard (placed marks.sought old table) shard)
+shard_counted marks items table shard old may few are =
     let item : Item = record { table = table; content = Shard shard } in
     let all = items ++ item ∷ [] in
     let kinds = few_kinds all may few in
@@ -227,28 +250,29 @@ shard_counted texts items table shard old may few are =
       undecided = sum_with (λ i. undecided_in i.content) items item old.undecided are.undecided
           (few_undecided all may few);
       wide = sum_with (λ i. wide_in i.table i.content) items item old.wide are.wide (few_wide all may few);
-      assumed = kind_more (λ i. is_assumed_in texts i.table i.content) items item old.assumed are.assumed
+      assumed = kind_more (λ i. is_assumed_in marks.assumed i.table i.content) items item old.assumed are.assumed
           (kinds _);
       most_steps = greatest_same (λ i. of_claim halt_steps i.content) items item old.most_steps refl
           are.most_steps;
       most_score = greatest_same (λ i. of_claim halt_score i.content) items item old.most_score refl
           are.most_score;
+      place = place_more marks.sought items item old.read old.place are.read are.place (few_read all may few);
       few = subst (λ n. n < 2 ^ 64) (sym lines) few;
     }
 
-pub one_counted : (texts : List (List ℕ)) (items : List Item) (item : Item) (old new : Counts)
-    → AreCountable (items ++ item ∷ []) → HasRoom old.lines item.content → AreCounts texts items old
-    → new ≡ counted texts old item → AreCounts texts (items ++ item ∷ []) new
-one_counted texts items item old new may room are is = rw is (by item.content may few)
+pub one_counted : (marks : Marks) (items : List Item) (item : Item) (old new : Counts)
+    → AreCountable (items ++ item ∷ []) → HasRoom old.lines item.content → AreCounts marks items old
+    → new ≡ counted marks old item → AreCounts marks (items ++ item ∷ []) new
+one_counted marks items item old new may room are is = rw is (by item.content may few)
   where
     few : sum_of all_in (items ++ item ∷ []) < 2 ^ 64
     few = let more = sum_more all_in items item in let all = are.all in omega (arith, more, all, room)
 
     by : (content : Content) → AreCountable (with_one items item.table content)
         → sum_of all_in (with_one items item.table content) < 2 ^ 64
-        → AreCounts texts (with_one items item.table content) (counted_content texts old item.table content)
-    by (Claim verdict) may few = claim_counted texts items item.table verdict old may few are
-    by (Shard shard) may few = shard_counted texts items item.table shard old may few are
+        → AreCounts marks (with_one items item.table content) (counted_content marks.assumed (placed marks.sought old item.table) item.table content)
+    by (Claim verdict) may few = claim_counted marks items item.table verdict old may few are
+    by (Shard shard) may few = shard_counted marks items item.table shard old may few are
 
 -- so many lines and those of the next item are within all
 sum_within : (first later : List Item) (item : Item)
@@ -256,15 +280,15 @@ sum_within : (first later : List Item) (item : Item)
 sum_within [] later item = omega arith
 sum_within (x ∷ first) later item = let rest = sum_within first later item in omega (arith, rest)
 
-pub room_within : (texts : List (List ℕ)) (all first later : List Item) (item : Item) (counts : Counts)
-    → AreCounts texts first counts → all ≡ first ++ item ∷ later → sum_of all_in all < 2 ^ 64 → HasRoom counts.lines item.content
-room_within texts all first later item counts are is few =
+pub room_within : (marks : Marks) (all first later : List Item) (item : Item) (counts : Counts)
+    → AreCounts marks first counts → all ≡ first ++ item ∷ later → sum_of all_in all < 2 ^ 64 → HasRoom counts.lines item.content
+room_within marks all first later item counts are is few =
     let past = are.all in
     let inside = sum_within first later item in
     let fits = subst (λ items. sum_of all_in items < 2 ^ 64) is few in
     omega (arith, past, inside, fits)
 
 -- the number of the line after these
-pub next_line : (texts : List (List ℕ)) (items : List Item) (bytes : List (List ℕ)) (counts : Counts)
-    → AreCounts texts items counts → length items ≡ length bytes → saturated (counts.read + 1) ≡ saturated (length bytes + 1)
-next_line texts items bytes counts are same = ap (λ n. saturated (n + 1)) (are.read ∙ same)
+pub next_line : (marks : Marks) (items : List Item) (bytes : List (List ℕ)) (counts : Counts)
+    → AreCounts marks items counts → length items ≡ length bytes → saturated (counts.read + 1) ≡ saturated (length bytes + 1)
+next_line marks items bytes counts are same = ap (λ n. saturated (n + 1)) (are.read ∙ same)

@@ -22,7 +22,7 @@ use Rattle.bb_cover.specs.declared.content.Content.TheVariants.{Claim, Shard}
 use Rattle.bb_cover.specs.declared.task.Task.{Task}
 use Rattle.bb_cover.specs.Claims.{AreTrueLines}
 use Rattle.bb_cover.specs.Content.{Item, line_of, lines_of}
-use Rattle.bb_cover.specs.Counts.{AreCounts, assumed_texts, saturated}
+use Rattle.bb_cover.specs.Counts.{AreCounts, marks_of, saturated}
 use Rattle.bb_cover.specs.CoverProgress.{Applies, IsWrong, rank}
 use Rattle.bb_cover.specs.Covering.{CoverIsUnique, HasLeft, IsFound, IsWholeWalk, IsWrongAt, StopsAt, root_of}
 use Rattle.bb_cover.proofs.ShardLines.{one_item}
@@ -162,7 +162,7 @@ module _ (task : Task) (bytes : List (List ℕ)) where
       size.symbols (line_of there.item) (lines_of there.later ++ tail) walk in
       let wrong : IsWrong task c.lines first.size first.left long.item one.why =
       subst (λ a. IsWrongAt task c.lines first.size first.left a one.why) long.rest first.wrong in
-      let room = room_within (assumed_texts task) second.items first.items there.later there.item c first.counted there.whole
+      let room = room_within (marks_of task) second.items first.items there.later there.item c first.counted there.whole
       (subst (λ n. n < 2 ^ 64) second.counted.all second.counted.few) in
       none_applies task c.lines first.size first.left long.item there.item one.why there.is_true room next
       wrong.applies
@@ -247,8 +247,8 @@ module _ (task : Task) (bytes : List (List ℕ)) where
 
   -- so it stops once
 
-  one_count : (items : List Item) (c d : Counts) → AreCounts (assumed_texts task) items c
-      → AreCounts (assumed_texts task) items d → c ≡ d
+  one_count : (items : List Item) (c d : Counts) → AreCounts (marks_of task) items c
+      → AreCounts (marks_of task) items d → c ≡ d
   one_count items c d one two = λ i. record {
     read = (one.read ∙ sym two.read) i;
     shards = (one.shards ∙ sym two.shards) i;
@@ -262,6 +262,7 @@ module _ (task : Task) (bytes : List (List ℕ)) where
     assumed = (one.assumed ∙ sym two.assumed) i;
     most_steps = (one.most_steps ∙ sym two.most_steps) i;
     most_score = (one.most_score ∙ sym two.most_score) i;
+    place = (one.place ∙ sym two.place) i;
   }
 
   one_stop : (c d : Counts) (one two : Stop) → StopsAt task bytes c one → StopsAt task bytes d two
@@ -274,7 +275,7 @@ module _ (task : Task) (bytes : List (List ℕ)) where
             let items : second.items ≡ first.items =
             same_true task first.before second.items first.items true_too first.are_true in
             let counts : c ≡ d =
-            one_count first.items c d first.counted (subst (λ l. AreCounts (assumed_texts task) l d) items second.counted) in
+            one_count first.items c d first.counted (subst (λ l. AreCounts (marks_of task) l d) items second.counted) in
             let wrong_too : IsWrongAt task c.lines second.size second.left first.after two.why =
             subst (λ (x : Counts). IsWrongAt task x.lines second.size second.left first.after two.why)
             (sym counts)
@@ -298,7 +299,7 @@ module _ (task : Task) (bytes : List (List ℕ)) where
   one_found (Covers n k) (Covers i j) c d one two exact exact_too = (
     sym (exact_too n k one.whole),
     one_count one.whole.items c d one.counted
-        (subst (λ l. AreCounts (assumed_texts task) l d) (same_true task bytes two.whole.items one.whole.items
+        (subst (λ l. AreCounts (marks_of task) l d) (same_true task bytes two.whole.items one.whole.items
         two.whole.are_true one.whole.are_true) two.counted),
   )
   one_found (Covers n k) (Stops t) c d one two exact exact_too =

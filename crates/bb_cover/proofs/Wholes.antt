@@ -27,7 +27,7 @@ use Rattle.bb_cover.specs.declared.task.Form.{Form}
 use Rattle.bb_cover.specs.declared.task.Task.{Task}
 use Rattle.bb_cover.specs.Claims.{AreTrueLines, IsFineContent, IsTrueLine}
 use Rattle.bb_cover.specs.Content.{IsItemLine, Item, line_of, lines_of}
-use Rattle.bb_cover.specs.Counts.{AreCounts, assumed_texts, no_counts, saturated}
+use Rattle.bb_cover.specs.Counts.{AreCounts, marks_of, no_counts, saturated}
 use Rattle.bb_cover.specs.CoverProgress.{Applies, EndsTooSoon, IsAsked, IsFoundBy, IsWrong, Stopped, TookBy, Visited}
 use Rattle.bb_cover.specs.CoverProgress.{HasRoom, Starts, size_after}
 use Rattle.bb_cover.specs.Covering.{CoversSize, HasLeft, HasSize, IsCover, IsFound, IsWholeWalk, root_of}
@@ -171,7 +171,7 @@ pub record Going (task : Task) (past : List (List ℕ)) (progress : CoverProgres
   pub are_true : AreTrueLines task past items
   pub has_left : HasLeft task.below progress.size progress.walk (lines_of items)
   pub begun : (size : Size) → progress.size ≡ Some size → Begins task.below (lines_of items) size
-  pub counted : AreCounts (assumed_texts task) items progress.counts
+  pub counted : AreCounts (marks_of task) items progress.counts
 
 -- and one that has
 pub record Ended (task : Task) (past : List (List ℕ)) (counts : Counts) (stop : Stop) : Type 0 where
@@ -276,7 +276,7 @@ module _ (task : Task) (past : List (List ℕ)) (bytes : List ℕ) (old new : Co
         begun = λ s is. subst (λ l. Begins task.below l s) pushed
             (visited_begun visited old.size old.walk visited.goes.asked going.has_left going.begun s
             (sym visited.goes.size ∙ is));
-        counted = one_counted (assumed_texts task) going.items visited.item old.counts new.counts
+        counted = one_counted (marks_of task) going.items visited.item old.counts new.counts
             (countable task (past ++ bytes ∷ []) (going.items ++ visited.item ∷ []) all_true) visited.room
             going.counted visited.counts;
       }
@@ -408,7 +408,7 @@ module _ (task : Task) (all : List (List ℕ)) (progress : CoverProgress) where
     left = here.walk;
     has_left = going.has_left;
     wrong = wrong;
-    line = line ∙ next_line (assumed_texts task) going.items before here.counts going.counted
+    line = line ∙ next_line (marks_of task) going.items before here.counts going.counted
         (true_length task before going.items going.are_true);
     counted = going.counted;
   }
@@ -424,7 +424,7 @@ module _ (task : Task) (all : List (List ℕ)) (progress : CoverProgress) where
       ended.going.are_true (subst (λ l. AreTrueLines task l whole.items) ended.whole whole.are_true) in
       none_applies task ended.progress.counts.lines ended.progress.size ended.progress.walk ended.bytes
       there.item stop.why there.is_true
-      (room_within (assumed_texts task) whole.items ended.going.items there.later there.item ended.progress.counts
+      (room_within (marks_of task) whole.items ended.going.items there.later there.item ended.progress.counts
       ended.going.counted there.whole whole.few)
       (next_asked task ended.before ended.progress ended.going (line_of there.item) (lines_of there.later) n k
       whole.sized
@@ -542,7 +542,7 @@ module _ {D : Type 0} (task : D → Task) (progress : D → CoverProgress) where
         are_true = tt;
         has_left = subst (λ s. HasLeft (task a).below s (progress a).walk []) (sym size) (refl, walk);
         begun = λ s is. let both = sym size ∙ is in cc;
-        counted = rw counts (none_counted (assumed_texts (task a)));
+        counted = rw counts (none_counted (marks_of (task a)));
       }
 
       more : (past : List (List ℕ)) (d : D) (line : List ℕ) (e : D)

@@ -1,6 +1,6 @@
 -- How many lines of each kind there are.
 use Rattle.std.specs.Prelude.{◌≡◌, ℕ, ◌+◌, ◌-◌, ◌^◌, ◌<◌, max, min, Bool, true, false, cond, nat_lt, List}
-use Rattle.std.specs.Prelude.{count_by, length, map, [], ◌∷◌}
+use Rattle.std.specs.Prelude.{count_by, length, map, [], ◌∷◌, zero, suc, Option, None, Some, option_map}
 use Rattle.std.specs.List.{list_any}
 use Rattle.std.specs.Str.{bytes_eq}
 use Rattle.bb_machine.specs.Machine.{Table, text}
@@ -56,6 +56,22 @@ is_assumed texts line = cond (is_undecided line.verdict) (is_among texts line.ta
 abbrev pub assumed_texts : Task → List (List ℕ)
 assumed_texts task = map (λ one. one.items) task.assumed.items
 
+-- the machine has this text, if one is sought
+abbrev pub is_sought : Option (List ℕ) → Table → Bool
+is_sought None table = false
+is_sought (Some words) table = bytes_eq words (text table)
+
+-- the machines that a list's lines are compared with: those assumed never to halt, and the one that is sought
+pub record Marks : Type 0 where
+  pub assumed : List (List ℕ)
+  pub sought : Option (List ℕ)
+
+abbrev pub marks_of : Task → Marks
+marks_of task = record {
+  assumed = assumed_texts task;
+  sought = option_map (λ one. one.items) task.sought;
+}
+
 -- the steps and the score of a halt, and 0 of any other verdict
 
 abbrev pub halt_steps : Verdict → ℕ
@@ -90,6 +106,7 @@ no_counts = record {
   assumed = 0;
   most_steps = 0;
   most_score = 0;
+  place = 0;
 }
 
 -- one more where the test holds
@@ -127,8 +144,15 @@ counted_content texts counts table (Claim verdict) =
     counted_claim texts counts (record { table = table; verdict = verdict })
 counted_content texts counts table (Shard shard) = counted_shard counts shard
 
-abbrev pub counted : List (List ℕ) → Counts → Item → Counts
-counted texts counts item = counted_content texts counts item.table item.content
+-- the counts with the number of the next line, if that has the machine that is sought
+abbrev pub placed : Option (List ℕ) → Counts → Table → Counts
+placed sought counts table = record counts {
+  place = cond (is_sought sought table) (saturated (counts.read + 1)) counts.place;
+}
+
+abbrev pub counted : Marks → Counts → Item → Counts
+counted marks counts item =
+    counted_content marks.assumed (placed marks.sought counts item.table) item.table item.content
 
 -- whether an item is a shard, and how many lines it stands for, how many of them undecided, and wide
 
@@ -170,9 +194,17 @@ abbrev pub greatest_of : (Item → ℕ) → List Item → ℕ
 greatest_of f [] = 0
 greatest_of f (item ∷ items) = max (f item) (greatest_of f items)
 
--- these are the counts of the items, whose lines are fewer than 2^64 in all; machines of these texts are
--- assumed never to halt
-pub record AreCounts (texts : List (List ℕ)) (items : List Item) (counts : Counts) : Type 0 where
+-- the number, counted from 1, of the last item with the machine that is sought; 0 if none has it
+abbrev pub place_or : Bool → ℕ → ℕ
+place_or first zero = cond first 1 0
+place_or first (suc later) = suc (suc later)
+
+abbrev pub place_of : Option (List ℕ) → List Item → ℕ
+place_of sought [] = 0
+place_of sought (item ∷ items) = place_or (is_sought sought item.table) (place_of sought items)
+
+-- these are the counts of the items, whose lines are fewer than 2^64 in all
+pub record AreCounts (marks : Marks) (items : List Item) (counts : Counts) : Type 0 where
   pub read : counts.read ≡ length items
   pub shards : counts.shards ≡ count_by (λ item. is_shard item.content) items
   pub all : counts.lines ≡ sum_of (λ item. lines_in item.content) items
@@ -182,9 +214,10 @@ pub record AreCounts (texts : List (List ℕ)) (items : List Item) (counts : Cou
   pub backward : counts.backward ≡ count_by (λ item. is_claim_of is_backward item.content) items
   pub undecided : counts.undecided ≡ sum_of (λ item. undecided_in item.content) items
   pub wide : counts.wide ≡ sum_of (λ item. wide_in item.table item.content) items
-  pub assumed : counts.assumed ≡ count_by (λ item. is_assumed_in texts item.table item.content) items
+  pub assumed : counts.assumed ≡ count_by (λ item. is_assumed_in marks.assumed item.table item.content) items
   pub most_steps : counts.most_steps ≡ greatest_of (λ item. of_claim halt_steps item.content) items
   pub most_score : counts.most_score ≡ greatest_of (λ item. of_claim halt_score item.content) items
+  pub place : counts.place ≡ place_of marks.sought items
   pub few : counts.lines < 2 ^ 64
 
 -- a list has so many lines, so many of them undecided, and so many of those with more than one `---`

@@ -17,7 +17,7 @@ use Rattle.bb_cover.specs.Claims.{IsRefusedClaim, IsTrueLine}
 use Rattle.bb_cover.specs.declared.task.Task.{Task}
 use Rattle.bb_cover.specs.declared.content.Content.{Content}
 use Rattle.bb_cover.specs.Content.{IsItemLine, Item, line_of}
-use Rattle.bb_cover.specs.Counts.{assumed_texts, counted, lines_in, saturated}
+use Rattle.bb_cover.specs.Counts.{counted, lines_in, marks_of, saturated}
 use Rattle.bb_cover.specs.UndefinedEntries.{IsToFill}
 use Rattle.bb_cover.specs.Left.{FillsAt}
 
@@ -60,7 +60,7 @@ pub record Visited (task : Task) (old : CoverProgress) (bytes : List ℕ) (new :
   pub undefined : Option UndefinedEntry
   pub to_fill : IsToFill (line_of item) undefined
   pub goes : GoesOn task.below old item.table undefined new
-  pub counts : new.counts ≡ counted (assumed_texts task) old.counts item
+  pub counts : new.counts ≡ counted (marks_of task) old.counts item
 
 -- the condition of each reason to stop at a line, apart from the others, after so many lines in all
 abbrev pub Applies : Task → ℕ → Option Size → List Table → List ℕ → Why → Type 0

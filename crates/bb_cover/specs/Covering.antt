@@ -26,7 +26,7 @@ use Rattle.bb_cover.specs.declared.content.ShardCounts.{ShardCounts}
 use Rattle.bb_cover.specs.declared.task.Form.TheVariants.{Verdicts}
 use Rattle.bb_cover.specs.declared.task.Task.{Task}
 use Rattle.bb_cover.specs.Content.{Item, lines_of}
-use Rattle.bb_cover.specs.Counts.{AreCounts, HasTotals, assumed_texts, is_among, lines_in, saturated, sum_of}
+use Rattle.bb_cover.specs.Counts.{AreCounts, HasTotals, assumed_texts, is_among, lines_in, marks_of, saturated, sum_of}
 use Rattle.bb_cover.specs.CoverProgress.{IsWrong}
 
 -- the machine at which the walk begins, of so many states and symbols
@@ -109,7 +109,7 @@ BoundsSize texts verdicts counts states symbols = (machine : Table) → IsMachin
 pub record CoversSize (task : Task) (bytes : List (List ℕ)) (counts : Counts) (states symbols : ℕ)
     : Type 0 where
   pub whole : IsWholeWalk task bytes states symbols
-  pub counted : AreCounts (assumed_texts task) whole.items counts
+  pub counted : AreCounts (marks_of task) whole.items counts
   pub joins : (parts : List (List VerdictLine)) → AreParts whole.items parts
       → IsJoinedWalk task.below counts states symbols (joined parts)
   pub bounds : task.form ≡ Verdicts → task.below ≡ None
@@ -140,7 +140,7 @@ pub record StopsAt (task : Task) (bytes : List (List ℕ)) (counts : Counts) (st
   pub has_left : HasLeft task.below size left (lines_of items)
   pub wrong : IsWrongAt task counts.lines size left after stop.why
   pub line : stop.line ≡ saturated (length before + 1)
-  pub counted : AreCounts (assumed_texts task) items counts
+  pub counted : AreCounts (marks_of task) items counts
 
 abbrev pub IsFound : Task → List (List ℕ) → Counts → Found → Type 0
 IsFound task bytes counts (Covers states symbols) = CoversSize task bytes counts states symbols

@@ -1,12 +1,13 @@
 //! How many lines of each kind a list has.
-ghost use Rattle.std.specs.Prelude.{◌≡◌, ◌↔◌, ◌+◌, IsTrue, map, max, nat_lt};
-ghost use Rattle.bb_cover.specs.Counts.{counted, counted_claim, counted_shard, is_among, more_if, no_counts};
-ghost use Rattle.bb_cover.specs.Counts.{saturated};
+ghost use Rattle.std.specs.Prelude.{◌≡◌, ◌↔◌, ◌+◌, IsTrue, map, max, nat_lt, option_map};
+ghost use Rattle.bb_cover.specs.Counts.{counted, counted_claim, counted_shard, is_among, is_sought, marks_of};
+ghost use Rattle.bb_cover.specs.Counts.{more_if, no_counts, placed, saturated};
 ghost use Rattle.bb_cover.specs.CoverProgress.{HasRoom};
 ghost use Rattle.bb_cover.specs.UndefinedEntries.{undefined_entries_of};
 
 use crate::content::{Content, ShardCounts};
 use crate::table::count_undefined_entries;
+use crate::task::Task;
 use crate::text::{Text, text_of};
 use bb_cert::Verdict;
 use bb_machine::Machine;
@@ -38,6 +39,8 @@ pub struct Counts {
     pub most_steps: u64,
     /// Their greatest score.
     pub most_score: u64,
+    /// The number, counted from 1, of the list's line with the machine that is sought; 0 if none has it.
+    pub place: u64,
 }
 
 impl Counts {
@@ -58,6 +61,7 @@ impl Counts {
             assumed: 0,
             most_steps: 0,
             most_score: 0,
+            place: 0,
         }
     }
 
@@ -73,13 +77,23 @@ impl Counts {
     }
 
     /// Counts a line.
-    pub(crate) fn add(&mut self, assumed: &[Text], machine: &Machine, content: &Content)
-        ensures { self.new ≡ counted (map (λ one. one.items) assumed.now) self.old
+    pub(crate) fn add(&mut self, task: &Task, machine: &Machine, content: &Content)
+        ensures { self.new ≡ counted (marks_of task.now) self.old
             (record { table = machine.now; content = content.now }) }
     {
+        self.find_place(&task.sought, machine);
         match content {
-            Content::Claim(verdict) => self.add_verdict(assumed, machine, verdict),
+            Content::Claim(verdict) => self.add_verdict(task.assumed.as_slice(), machine, verdict),
             Content::Shard(shard) => self.add_shard(*shard),
+        }
+    }
+
+    /// Keeps the next line's number, if it has the machine that is sought.
+    fn find_place(&mut self, sought: &Option<Text>, machine: &Machine)
+        ensures { self.new ≡ placed (option_map (λ one. one.items) sought.now) self.old machine.now }
+    {
+        if is_sought(sought, machine) {
+            self.place = self.read.saturating_add(1);
         }
     }
 
@@ -146,4 +160,14 @@ fn is_among(assumed: &[Text], machine: &Machine) -> bool
     ensures { result ≡ is_among (map (λ one. one.items) assumed.now) machine.now }
 {
     assumed.contains(&text_of(machine))
+}
+
+/// Whether a machine is the one that is sought.
+fn is_sought(sought: &Option<Text>, machine: &Machine) -> bool
+    ensures { result ≡ is_sought (option_map (λ one. one.items) sought.now) machine.now }
+{
+    match sought {
+        Some(words) => *words == text_of(machine),
+        None => false,
+    }
 }

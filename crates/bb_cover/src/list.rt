@@ -5,7 +5,7 @@ ghost use Rattle.bb_machine.specs.Machine.{Table};
 ghost use Rattle.bb_cert.specs.checker.Pair.{PairHasCells};
 ghost use Rattle.bb_tree.specs.Path.{depth_of};
 ghost use Rattle.bb_lines.specs.Watched.{is_marked, watched_inner};
-ghost use Rattle.bb_cover.specs.Counts.{assumed_texts, counted, saturated};
+ghost use Rattle.bb_cover.specs.Counts.{counted, marks_of, saturated};
 ghost use Rattle.bb_cover.specs.CoverProgress.{GoesOn, IsAsked, IsFoundBy, Starts};
 ghost use Rattle.bb_cover.specs.Covering.{CoverEnds};
 ghost use Rattle.bb_cover.specs.UndefinedEntries.{IsUndefinedOf};
@@ -123,10 +123,10 @@ impl CoverProgress {
         requires unbegun { self.old.size ≡ None → self.old.walk ≡ [] }
         requires undefined { IfSome undefined (IsUndefinedOf machine.old) }
         ensures goes { GoesOn task.now.below self.old machine.old undefined self.new }
-        ensures counts { self.new.counts ≡ counted (assumed_texts task.now) self.old.counts
+        ensures counts { self.new.counts ≡ counted (marks_of task.now) self.old.counts
             (record { table = machine.old; content = content.now }) }
     {
-        self.counts.add(task.assumed.as_slice(), machine, content);
+        self.counts.add(task, machine, content);
         match self.size {
             None => {
                 self.size = Some(Size {

@@ -22,4 +22,6 @@ pub struct Task {
     pub form: Form,
     /// The texts of machines that are assumed never to halt. Their undecided lines are counted apart.
     pub assumed: Vec<Text>,
+    /// The text of the machine whose line is sought, if any.
+    pub sought: Option<Text>,
 }

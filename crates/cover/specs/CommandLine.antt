@@ -13,7 +13,7 @@ use Rattle.bb_cover.specs.declared.task.Form.{Form}
 use Rattle.bb_cover.specs.declared.task.Form.TheVariants.{Skeleton, Verdicts}
 use Rattle.cover.specs.declared.command.Asked.{Asked}
 use Rattle.cover.specs.declared.command.Refusal.{Refusal}
-use Rattle.cover.specs.declared.command.Refusal.TheVariants.{Common, Machine}
+use Rattle.cover.specs.declared.command.Refusal.TheVariants.{Below, Common, Line}
 
 -- an option with a text, as `--below MACHINE`
 abbrev pub text_rule : Text → Rule
@@ -24,7 +24,7 @@ abbrev pub cells_rule : Rule
 cells_rule = by_default (codes "67108864") (number_rule (codes "cells"))
 
 -- cover [--steps N] [--cells N] [--depth N] [--nodes N] [--below MACHINE] [--skeleton] [--assume FILE]
--- [--lines] [FILE]; a limit that isn't given is the greatest
+-- [--line MACHINE] [--lines] [FILE]; a limit that isn't given is the greatest
 abbrev pub command_line : App
 command_line = record {
   top = record (new_shape (codes "cover")) {
@@ -36,6 +36,7 @@ command_line = record {
         ∷ text_rule (codes "below")
         ∷ switch_rule (codes "skeleton")
         ∷ text_rule (codes "assume")
+        ∷ text_rule (codes "line")
         ∷ switch_rule (codes "lines")
         ∷ positional_rule (codes "file")
         ∷ [];
@@ -48,22 +49,24 @@ abbrev pub form_by : Bool → Form
 form_by is_skeleton = cond is_skeleton Skeleton Verdicts
 
 -- the machine with this text, if one is given
-abbrev pub IsBelow : Option Text → Option Table → Type 0
-IsBelow None None = Unit {0}
-IsBelow None (Some table) = ⊥
-IsBelow (Some given) None = ⊥
-IsBelow (Some given) (Some table) = IsMachine table × (text table ≡ given)
+abbrev pub IsGivenMachine : Option Text → Option Table → Type 0
+IsGivenMachine None None = Unit {0}
+IsGivenMachine None (Some table) = ⊥
+IsGivenMachine (Some given) None = ⊥
+IsGivenMachine (Some given) (Some table) = IsMachine table × (text table ≡ given)
 
 -- the words are a command line, with the list of this file, the walk that it has to be, and the file of the
--- machines that are assumed never to halt, of which none is read yet; with --lines the list is one of
--- machines
+-- machines that are assumed never to halt, of which none is read yet; no line is sought yet; with --lines the
+-- list is one of machines
 pub record IsAskedBy (words : List Text) (asked : Asked) : Type 0 where
   pub no_fault : fault_of command_line words ≡ []
   pub limits : asked.task.limits ≡ list_bounds (matches_of command_line words)
-  pub below : IsBelow (first_of (codes "below") (matches_of command_line words)) asked.task.below
+  pub below : IsGivenMachine (first_of (codes "below") (matches_of command_line words)) asked.task.below
   pub form : asked.task.form ≡ form_by (is_given (codes "skeleton") (matches_of command_line words))
   pub unread : asked.task.assumed.items ≡ []
+  pub unsought : asked.task.sought ≡ None
   pub assume : option_map string_bytes asked.assume ≡ first_of (codes "assume") (matches_of command_line words)
+  pub line : IsGivenMachine (first_of (codes "line") (matches_of command_line words)) asked.line
   pub lines : asked.lines ≡ is_given (codes "lines") (matches_of command_line words)
   pub file : option_map string_bytes asked.file ≡ first_of (codes "file") (matches_of command_line words)
 
@@ -73,10 +76,15 @@ IsTextRefused None column = ⊥
 IsTextRefused (Some given) column = IsColumn given column
 
 -- why nothing is done: the words give nothing; or they are a command line, and its limits are refused; or the
--- limits are accepted, and its machine is refused
+-- limits are accepted, and the machine to begin at is refused; or that one isn't, and the one whose line is
+-- sought is
 abbrev pub IsStopOf : List Text → Refusal → Type 0
 IsStopOf words (Common stop) = IsWordsStop (fault_of command_line words) stop
     ⊎ ((fault_of command_line words ≡ []) × IsLimitsStop (list_bounds (matches_of command_line words)) stop)
-IsStopOf words (Machine refused) = (fault_of command_line words ≡ [])
+IsStopOf words (Below refused) = (fault_of command_line words ≡ [])
     × IsAccepted (list_bounds (matches_of command_line words))
     × IsTextRefused (first_of (codes "below") (matches_of command_line words)) refused.column
+IsStopOf words (Line refused) = (fault_of command_line words ≡ [])
+    × IsAccepted (list_bounds (matches_of command_line words))
+    × ((below : Option Table) × IsGivenMachine (first_of (codes "below") (matches_of command_line words)) below)
+    × IsTextRefused (first_of (codes "line") (matches_of command_line words)) refused.column

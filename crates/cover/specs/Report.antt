@@ -1,6 +1,6 @@
 -- The printed line, byte for byte: this project's own.
 use Rattle.std.specs.Prelude.{ℕ, ◌-◌, List, [], ◌∷◌, ◌++◌, Option, Some, None, codes, decimal, if◌then◌else◌}
-use Rattle.std.specs.Prelude.{nat_eq}
+use Rattle.std.specs.Prelude.{nat_eq, option_map, zero, suc}
 use Rattle.bb_machine.specs.Machine.{Table, text}
 use Rattle.bb_cert.specs.declared.checker.answer.Answer.{Answer}
 use Rattle.bb_cert.specs.declared.checker.answer.Answer.TheVariants.{Ok, Bad, Over, Open}
@@ -54,6 +54,12 @@ abbrev pub open_text : Counts → List ℕ
 open_text counts = codes "; " ++ (decimal (counts.undecided - counts.assumed) ++ (codes " open, "
     ++ (decimal counts.assumed ++ codes " assumed")))
 
+-- the number of the line that is sought, if one is
+abbrev pub place_text : Option (List ℕ) → ℕ → List ℕ
+place_text None place = []
+place_text (Some words) zero = codes "; " ++ (words ++ codes " isn't a line")
+place_text (Some words) (suc n) = codes "; " ++ (words ++ (codes " is line " ++ decimal (suc n)))
+
 -- the next machine; before the first line none is known
 abbrev pub asked_text : List ℕ → List ℕ
 asked_text [] = codes "a machine with no entry"
@@ -88,7 +94,8 @@ why_text form asked given Beyond = beyond_text
 abbrev pub found_text : Task → Cover → Found → List ℕ
 found_text task cover (Covers states symbols) = root_text task.below states symbols
     ++ (shards_text task.form cover.counts.shards ++ (counts_text cover.counts
-    ++ (undefined_text task.below ++ (halts_text task.form cover.counts ++ open_text cover.counts))))
+    ++ (undefined_text task.below ++ (halts_text task.form cover.counts ++ (open_text cover.counts
+    ++ place_text (option_map (λ one. one.items) task.sought) cover.counts.place)))))
 found_text task cover (Stops stop) = codes "line " ++ (decimal stop.line ++ (codes ": "
     ++ why_text task.form cover.asked.items cover.given.items stop.why))
 
@@ -96,6 +103,7 @@ found_text task cover (Stops stop) = codes "line " ++ (decimal stop.line ++ (cod
 abbrev pub report_text : Task → Cover → List ℕ
 report_text task cover = found_text task cover cover.found ++ 10 ∷ []
 
--- the refusal of the text of `--below`, at a column
-abbrev pub refusal_text : ℕ → List ℕ
-refusal_text column = codes "cover: the text of --below is no machine: refused at column " ++ decimal column
+-- the refusal of the text of an option, at a column
+abbrev pub refusal_text : List ℕ → ℕ → List ℕ
+refusal_text option column = codes "cover: the text of --" ++ (option
+    ++ (codes " is no machine: refused at column " ++ decimal column))

@@ -7,7 +7,7 @@ ghost use Rattle.clap.specs.Words.{app_of, first_of, found_of, rows_of, rule_of}
 ghost use Rattle.bb_machine.specs.Column.{IsColumn};
 ghost use Rattle.bb_machine.specs.declared.limits.TheConstants.{MAX_CELLS};
 ghost use Rattle.bb_command.specs.Command.{IsLimitsStop, is_given, list_bounds};
-ghost use Rattle.cover.specs.CommandLine.{IsAskedBy, IsBelow, IsStopOf, command_line, form_by, text_rule};
+ghost use Rattle.cover.specs.CommandLine.{IsAskedBy, IsGivenMachine, IsStopOf, command_line, form_by, text_rule};
 ghost use Rattle.cover.specs.CommandLine.{IsTextRefused, cells_rule};
 ghost use Rattle.cover.specs.Status.{refusal_status};
 
@@ -27,6 +27,8 @@ pub struct Asked {
     pub task: Task,
     /// The file of machines that are assumed never to halt, if any.
     pub assume: Option<String>,
+    /// The machine whose line is sought in the list, if any.
+    pub line: Option<Machine>,
     /// Whether the list is one of machines, and their lines are printed.
     pub lines: bool,
     /// The list's file; standard input if none.
@@ -39,7 +41,9 @@ pub enum Refusal {
     /// A cause common to all programs: the words, help, the limits or an allocation.
     Common(Stop),
     /// The text of `--below` is no machine.
-    Machine(Refused),
+    Below(Refused),
+    /// The text of `--line` is none.
+    Line(Refused),
 }
 
 impl Refusal {
@@ -49,7 +53,7 @@ impl Refusal {
     {
         match self {
             Refusal::Common(stop) => stop.status(),
-            Refusal::Machine(_) => 2,
+            Refusal::Below(_) | Refusal::Line(_) => 2,
         }
     }
 }
@@ -66,8 +70,8 @@ impl From<AllocError> for Refusal {
     }
 }
 
-/// Reads a command line. The first word is the program's name. Words come before limits, and limits before
-/// the machine. No machine is assumed yet never to halt.
+/// Reads a command line. The first word is the program's name. Words come before limits, limits before the
+/// machines, and `--below` before `--line`. No machine is assumed yet never to halt, and no line is sought yet.
 pub fn ask(alloc: Global, words: &[&str]) -> Result<Asked, Refusal>
     ensures asked { IfOk result (IsAskedBy (map (λ word. word.now) words.now)) }
     ensures stop { IfErr result (IsStopOf (map (λ word. word.now) words.now)) }
@@ -81,9 +85,13 @@ pub fn ask(alloc: Global, words: &[&str]) -> Result<Asked, Refusal>
         Err(stop) => return Err(Refusal::Common(stop)),
     };
     limits.show_accepted();
-    let below = match below_of(&matches) {
+    let below = match machine_of(&matches, "below") {
         Ok(below) => below,
-        Err(refused) => return Err(Refusal::Machine(refused)),
+        Err(refused) => return Err(Refusal::Below(refused)),
+    };
+    let line = match machine_of(&matches, "line") {
+        Ok(line) => line,
+        Err(refused) => return Err(Refusal::Line(refused)),
     };
     let form = form_of(&matches);
     let assume = assume_file(alloc, &matches)?;
@@ -95,8 +103,10 @@ pub fn ask(alloc: Global, words: &[&str]) -> Result<Asked, Refusal>
             below,
             form,
             assumed: Vec::new(alloc),
+            sought: None,
         },
         assume,
+        line,
         lines,
         file,
     })
@@ -136,6 +146,10 @@ place of a shard's lines one line, MACHINE below N U G SHA256: its lines, those
 undecided, those of them with more than one ---, and the digest of its file,
 which isn't read.
 
+With --line the end tells the number of MACHINE's line in the list: the line of
+the machine that MACHINE completes, perhaps mirrored or renamed first. --steps
+must be given, and be those of the list.
+
 With --lines the input has a machine on each line, and the output tells its line
 in every list of its size made with the same --steps, which must be given:
   MACHINE line LINE same|mirror STATES SYMBOLS runs|halt STEPS SCORE ENTRY
@@ -155,13 +169,29 @@ fn program<'a>(alloc: Global) -> Result<Command<'a>, AllocError>
         .arg(cells(alloc))?
         .arg(limit(alloc, "depth", MOST_LEVELS, "Most levels, 0 to 10000"))?
         .arg(limit(alloc, "nodes", MOST_STEPS, "Most nodes, 0 to 1000000000000"))?
-        .arg(below(alloc))?
+        .arg(text(
+            alloc,
+            "below",
+            "MACHINE",
+            "The machine to begin at [default: one with no entry]",
+        ))?
         .arg(switch(
             alloc,
             "skeleton",
             "Takes lines for shards, and adds up their counts",
         ))?
-        .arg(assume(alloc))?
+        .arg(text(
+            alloc,
+            "assume",
+            "FILE",
+            "Lines MACHINE nonhalt: counts these machines apart",
+        ))?
+        .arg(text(
+            alloc,
+            "line",
+            "MACHINE",
+            "Tells the number of this machine's line",
+        ))?
         .arg(switch(
             alloc,
             "lines",
@@ -196,26 +226,15 @@ fn cells<'a>(alloc: Global) -> Arg<'a>
     limit(alloc, "cells", MOST_CELLS, CELLS_HELP)
 }
 
-/// The option with the first machine of the walk.
-fn below<'a>(alloc: Global) -> Arg<'a>
-    ensures rule { rule_of result ≡ text_rule (codes "below") }
+/// An option with a text.
+fn text<'a>(alloc: Global, name: &'a str, value: &'a str, help: &'a str) -> Arg<'a>
+    ensures rule { rule_of result ≡ text_rule name.now }
     ensures local { result.global ≡ false }
 {
-    Arg::new(alloc, "below")
-        .long("below")
-        .value_name("MACHINE")
-        .help("The machine to begin at [default: one with no entry]")
-}
-
-/// The option with the file of machines that are assumed never to halt.
-fn assume<'a>(alloc: Global) -> Arg<'a>
-    ensures rule { rule_of result ≡ text_rule (codes "assume") }
-    ensures local { result.global ≡ false }
-{
-    Arg::new(alloc, "assume")
-        .long("assume")
-        .value_name("FILE")
-        .help("Lines MACHINE nonhalt: counts these machines apart")
+    Arg::new(alloc, name)
+        .long(name)
+        .value_name(value)
+        .help(help)
 }
 
 /// The limits, if they are accepted.
@@ -232,13 +251,13 @@ fn limits_of(matches: &ArgMatches<'_>) -> Result<Limits, Stop>
     .map_err(Stop::Limits)
 }
 
-/// The first machine of the walk, if one is given.
-fn below_of(matches: &ArgMatches<'_>) -> Result<Option<Machine>, Refused>
-    ensures ok { IfOk result (IsBelow (first_of (codes "below") (rows_of (found_of matches.now)))) }
+/// The machine that an option gives, if any.
+fn machine_of(matches: &ArgMatches<'_>, name: &str) -> Result<Option<Machine>, Refused>
+    ensures ok { IfOk result (IsGivenMachine (first_of name.now (rows_of (found_of matches.now)))) }
     ensures refused { IfErr result (λ refused.
-        IsTextRefused (first_of (codes "below") (rows_of (found_of matches.now))) refused.column) }
+        IsTextRefused (first_of name.now (rows_of (found_of matches.now))) refused.column) }
 {
-    match matches.get_str("below") {
+    match matches.get_str(name) {
         Some(text) => match Machine::read(text.as_bytes()) {
             Ok(machine) => Ok(Some(machine)),
             Err(refused) => Err(refused),

@@ -20,7 +20,7 @@ use bb_terminal::progress::Progress;
 use bb_terminal::streams::Observed;
 use command::{Asked, Refusal, ask};
 use report::{LineCount, MachineText, write_report};
-use serve::{cover_list, lines_status, list_lines, status};
+use serve::{cover_list, lines_status, list_lines, sought_text, status};
 use std::cell::Cell;
 use std::io;
 use std::io::{IsTerminal, Read};
@@ -32,7 +32,7 @@ const PROGRAM: &str = "cover";
 fn main(rt: HostRuntime) -> ExitCode {
     let status = match parse_request(&rt) {
         Ok(asked) if asked.lines => answer_machines(&rt, &asked),
-        Ok(mut asked) => match assume_machines(&rt, &mut asked) {
+        Ok(mut asked) => match prepare(&rt, &mut asked) {
             Ok(()) => answer_request(&rt, &asked),
             Err(status) => status,
         },
@@ -46,6 +46,22 @@ fn parse_request(rt: &HostRuntime) -> Result<Asked, Refusal> {
     let arguments = read_arguments(rt).map_err(Refusal::Common)?;
     let words = words_of(rt.alloc(), arguments.as_slice())?;
     ask(rt.alloc(), words.as_slice())
+}
+
+/// Reads the machines that are assumed never to halt, and finds the line that is sought. `Err` is an exit
+/// status, after its message.
+fn prepare(rt: &HostRuntime, asked: &mut Asked) -> Result<(), u8> {
+    assume_machines(rt, asked)?;
+    let Some(machine) = &asked.line else {
+        return Ok(());
+    };
+    match sought_text(rt.alloc(), machine, &asked.task.limits) {
+        Ok(text) => {
+            asked.task.sought = Some(text);
+            Ok(())
+        }
+        Err(_) => Err(report_fault(rt, PROGRAM, None, Fault::Memory, None)),
+    }
 }
 
 /// Reads the machines that are assumed never to halt. `Err` is an exit status, after its message: 2 if a line
@@ -211,13 +227,14 @@ fn report_list_fault(rt: &HostRuntime, asked: &Asked, fault: Fault, error: Optio
 fn report_refusal(rt: &HostRuntime, refusal: &Refusal) -> u8
     ensures { IsRefusalStatus refusal.now result }
 {
-    match refusal {
-        Refusal::Common(stop) => report_stop(rt, PROGRAM, stop),
-        Refusal::Machine(refused) => {
-            let _ = rt.eprintln(MachineText {
-                column: refused.column,
-            });
-            refusal.status()
-        }
-    }
+    let (option, refused) = match refusal {
+        Refusal::Common(stop) => return report_stop(rt, PROGRAM, stop),
+        Refusal::Below(refused) => ("below", refused),
+        Refusal::Line(refused) => ("line", refused),
+    };
+    let _ = rt.eprintln(MachineText {
+        option,
+        column: refused.column,
+    });
+    refusal.status()
 }

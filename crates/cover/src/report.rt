@@ -1,12 +1,12 @@
 //! The printed line, and the texts for standard error.
-ghost use Rattle.std.specs.Prelude.{◌≡◌, ◌≢◌, ◌↔◌, ◌++◌, IfOk, IsOkUnless, OnErr, OnOk, codes, decimal};
-ghost use Rattle.std.specs.Prelude.{false, is_err, true};
+ghost use Rattle.std.specs.Prelude.{◌≡◌, ◌≢◌, ◌↔◌, ◌++◌, IfOk, IsOkUnless, OnErr, OnOk, Some, codes, decimal};
+ghost use Rattle.std.specs.Prelude.{false, is_err, option_map, true};
 ghost use Rattle.std.specs.Io.KnownBytes.{Appends};
 ghost use Rattle.bb_machine.specs.Machine.{text};
 ghost use Rattle.bb_lines.specs.Ends.{AppendsPrefix};
 ghost use Rattle.bb_lines.specs.Watched.{is_marked, watched_inner};
 ghost use Rattle.cover.specs.Report.{asked_text, beyond_text, counted_text, counts_text, halts_text};
-ghost use Rattle.cover.specs.Report.{open_text, outside_text, refused_text};
+ghost use Rattle.cover.specs.Report.{open_text, outside_text, place_text, refused_text};
 ghost use Rattle.cover.specs.Report.{report_text, root_text, shards_text, undefined_text, unread_text};
 ghost use Rattle.cover.specs.Report.{too_many_text, why_text};
 
@@ -122,7 +122,8 @@ fn covers_text(
 ) -> Result<Vec<u8>, AllocError>
     ensures { IfOk result (λ line. line.items ≡ root_text task.now.below states symbols
         ++ (shards_text task.now.form counts.now.shards ++ (counts_text counts.now
-        ++ (undefined_text task.now.below ++ (halts_text task.now.form counts.now ++ open_text counts.now))))) }
+        ++ (undefined_text task.now.below ++ (halts_text task.now.form counts.now ++ (open_text counts.now
+        ++ place_text (option_map (λ one. one.items) task.now.sought) counts.now.place)))))) }
 {
     let mut line = Vec::new(alloc);
     add_root(&mut line, &task.below, states, symbols)?;
@@ -131,6 +132,7 @@ fn covers_text(
     line.extend_from_slice(undefined_word(&task.below))?;
     add_halts(&mut line, task.form, counts)?;
     add_open(&mut line, counts)?;
+    add_place(&mut line, &task.sought, counts.place)?;
     Ok(line)
 }
 
@@ -220,6 +222,29 @@ fn add_open(line: &mut Vec<u8>, counts: &Counts) -> Result<(), AllocError>
     line.extend_from_slice(b" open, ")?;
     add_number(line, counts.assumed)?;
     line.extend_from_slice(b" assumed")
+}
+
+/// Adds the number of the line that is sought, if one is; 0 stands for none.
+fn add_place(line: &mut Vec<u8>, sought: &Option<Text>, place: u64) -> Result<(), AllocError>
+    ensures { OnOk result (line.new.items
+        ≡ line.old.items ++ place_text (option_map (λ one. one.items) sought.now) place) }
+{
+    match sought {
+        None => Ok(()),
+        Some(words) => add_found_place(line, words.as_slice(), place),
+    }
+}
+
+fn add_found_place(line: &mut Vec<u8>, words: &[u8], place: u64) -> Result<(), AllocError>
+    ensures { OnOk result (line.new.items ≡ line.old.items ++ place_text (Some words.now) place) }
+{
+    line.extend_from_slice(b"; ")?;
+    line.extend_from_slice(words)?;
+    if place == 0 {
+        return line.extend_from_slice(b" isn't a line");
+    }
+    line.extend_from_slice(b" is line ")?;
+    add_number(line, place)
 }
 
 fn outside_words(form: Form) -> &'static [u8]
@@ -348,9 +373,10 @@ pub fn machine_text(machine: &Machine) -> Text
     words
 }
 
-/// The refusal of the text of `--below`.
+/// The refusal of the text of an option.
 #[derive(Drop)]
 pub struct MachineText {
+    pub option: &'static str,
     pub column: u32,
 }
 
@@ -358,13 +384,13 @@ impl Display for MachineText {
     ghost use Rattle.std.specs.Prelude.{Some};
     ghost use Rattle.cover.specs.Report.{refusal_text};
 
-    ghost output = { λ refusal. Some (refusal_text refusal.column) };
+    ghost output = { λ refusal. Some (refusal_text refusal.option.now refusal.column) };
 
     fn fmt<W: fmt::Write>(&self, f: &mut Formatter<W>) -> fmt::Result {
         write!(
             f,
-            "cover: the text of --below is no machine: refused at column {}",
-            self.column
+            "cover: the text of --{} is no machine: refused at column {}",
+            self.option, self.column
         )
     }
 }

@@ -1,17 +1,19 @@
 //! Walks along a list on rings of its own, and returns the result.
-ghost use Rattle.std.specs.Prelude.{◌≡◌, ◌≢◌, ◌↔◌, ◌⊎◌, false, true};
+ghost use Rattle.std.specs.Prelude.{◌≡◌, ◌≢◌, ◌↔◌, ◌⊎◌, IfOk, false, true};
 ghost use Rattle.bb_lines.specs.Watched.{is_marked, watched_inner};
 ghost use Rattle.bb_cover.specs.Covering.{CoverEnds};
 ghost use Rattle.bb_cover.specs.LineEnds.{LineEnds};
 ghost use Rattle.bb_terminal.specs.NotBegun.{IsNotBegun};
+ghost use Rattle.cover.specs.Sought.{IsLineText};
 ghost use Rattle.cover.specs.Status.{end_status, lines_status};
 
+use crate::report::machine_text;
 use bb_cert::ring_pair;
-use bb_cover::{Cover, Found, Task, run_cover, run_lines};
+use bb_cover::{Cover, Found, Task, Text, line_of, run_cover, run_lines};
 use bb_lines::fault::Fault;
 use bb_lines::watched::Watched;
-use bb_machine::Limits;
-use bb_tape::RingTape;
+use bb_machine::{Limits, Machine};
+use bb_tape::{Memory, RingTape};
 use std::alloc::Global;
 use std::cell::Cell;
 use std::io::{Read, Write};
@@ -64,6 +66,15 @@ pub fn list_lines<R: Read, W: Write>(
         return Err(Fault::Memory);
     };
     run_lines(reader, writer, limits, &mut tape, seen)
+}
+
+/// The text of a machine's line within limits, on a ring of its own, allocated once.
+pub fn sought_text(alloc: Global, machine: &Machine, limits: &Limits) -> Result<Text, Memory>
+    ensures { IfOk result (λ words. IsLineText machine.now limits.now words.items) }
+{
+    let mut tape = RingTape::new(alloc, limits.cells())?;
+    let line = line_of(machine, limits, &mut tape)?;
+    Ok(machine_text(&line.machine))
 }
 
 /// The exit status after the lines of a list: 0, or 3 for a fault.
