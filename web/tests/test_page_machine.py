@@ -46,6 +46,19 @@ def test_facts_are_those_of_the_package(tab: Page, library: pathlib.Path, machin
     assert tab.text("fact-later") == "state %s, head at %s." % (place.state, position)
 
 
+def test_same_machines_of_a_list(tab: Page) -> None:
+    """By their lines: mirror images and other names, and the entry where the line halts."""
+    tab.open_list("1RB1LB_1LA1RZ", "1LB1RB_1RA1LZ", "1RB1LB_1LA---", "1RB---_1RA---", "1LB0RB_1LA1LB")
+    alike = "the same%s, up to the names of states and symbols, and left and right."
+    for row, words in enumerate(("Line 2 does", "Line 1 does", "None.", "Line 5 does", "Line 4 does")):
+        tab.open_row(row)
+        span = " for at least 10,000 steps" if row >= 3 else ""
+        expected = words if words == "None." else "%s %s" % (words, alike % span)
+        tab.until(lambda: tab.text("fact-same") == expected)
+    tab.open_list(*random_machines(201, random.Random(1)))
+    tab.until(lambda: tab.text("fact-same") == "Lists of more than 200 lines aren\u2019t compared.")
+
+
 @pytest.mark.parametrize("machine", MACHINES)
 def test_growth(tab: Page, machine: str, steps: int = 5_000) -> None:
     """Visited cells after a hundredth, a tenth and all of the steps, or at the halt."""

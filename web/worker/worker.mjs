@@ -188,7 +188,7 @@ const HANDLERS = {
   },
   growth: (message, host) => [{ growth: measureGrowth(host, message) }],
   recurrence: (message, host) => [findRecurrence(host, message)],
-  "line-of": ({ machine }, host) => [{ found: host.lineOf([machine], LINE_LIMITS)[0] }],
+  "line-of": ({ machines }, host) => [{ found: host.lineOf(machines, LINE_LIMITS), steps: LINE_LIMITS.steps }],
   "decide-one": (message) => [decideOne(message)],
   trace: (message, host) => [traceRows(host, message)],
   claim: (message, host) => [traceClaim(host, message)],

@@ -1,6 +1,7 @@
 /** The view of a list: its kinds, order, rows and open line. */
 import { KINDS, formatNumber } from "../../common/machine.mjs";
 import { create, onClick, byId, setInactive, announce } from "../dom.mjs";
+import { MOST_COMPARED } from "../machine/lines.mjs";
 import { WorkerClient } from "../worker-client.mjs";
 import { RowTable } from "./row-table.mjs";
 
@@ -55,6 +56,7 @@ export class ListView {
       this.openRow(this.rows.rows[0] ?? 0, false);
       if (performance.getEntriesByName(FIRST_VERDICT).length === 0) performance.mark(FIRST_VERDICT);
     }
+    this.compareOpen();
   }
 
   /** Replaces the open row after a new decision; returns whether it could. Checked claims stay. */
@@ -136,6 +138,14 @@ export class ListView {
     const form = info.mode === "decide" ? info.form : null;
     const line = { text: given, number, form, isFound: info.isFound };
     this.view.open({ machine, verdict, answer, plan, isWaiting }, moves, line);
+    this.compareOpen();
+  }
+
+  /** Looks for other lines of the open machine, once all are answered. */
+  compareOpen() {
+    const { openLine, work: { results, isRunning } } = this;
+    const row = openLine === null || isRunning ? -1 : results.rowOf(openLine);
+    if (row >= 0) this.view.compare(results.machinesBeside(row, MOST_COMPARED));
   }
 
   /** Opens the next or previous row, or undecided row. */

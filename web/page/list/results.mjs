@@ -153,6 +153,13 @@ export class Results {
     return { ...read, answer, kind: KINDS[part.kinds[line]], number, given, pass, plan: this.plans[pass] };
   }
 
+  /** The machines of the other rows with their numbers; null if there are more rows than `most`. */
+  machinesBeside(/** @type {number} */ row, /** @type {number} */ most) {
+    if (this.lines > most) return null;
+    const rows = Array.from({ length: this.lines }, (_, k) => k).filter((k) => k !== row).map((k) => this.rowAt(k));
+    return rows.filter(({ verdict }) => verdict.kind !== "refused").map(({ number, machine }) => ({ number, machine }));
+  }
+
   /** The program's output for these kinds, without provisional lines. Pauses between incomplete parts. */
   async blobOf(kinds = new Set(KINDS.keys())) {
     const parts = [];

@@ -7,6 +7,7 @@
 import { formatCount, formatNumber } from "../../common/machine.mjs";
 import { byId, create, createFacts } from "../dom.mjs";
 import { WorkerClient } from "../worker-client.mjs";
+import { compareLines, requestLine } from "./lines.mjs";
 
 const MOST_GROWTH_STEPS = 1_000_000;
 const FEWEST_GROWTH_STEPS = 100;
@@ -30,7 +31,6 @@ const GROWTHS = /** @type {Record<string, string>} */ ({
   line: "Linear growth",
 });
 const client = new WorkerClient();
-const lineClient = new WorkerClient();
 const growthClient = new WorkerClient();
 // Replies for another machine are dropped.
 let current = /** @type {About | null} */ (null);
@@ -70,15 +70,22 @@ export function showMachineInfo(/** @type {About} */ about) {
   const code = (/** @type {string} */ text) => create("code", {}, text);
   byId("facts").replaceChildren(...createFacts("fact-", [
     ["line", "Line in complete lists", "…"],
+    ["same", "Same machine in this list", "…"],
     ["mirror", "Mirror image", code(mirror)],
     ["growth", "Cells visited", "…"],
     ["completions", "Undefined entries", isConfirmed ? "…" : "The verdict isn’t confirmed by the checker."],
     ["starts", "Every start", isConfirmed ? startsText(verdict) : "–"],
     ["later", "Step 10¹⁵", isConfirmed ? "…" : "–"],
   ]));
-  requestLine(about);
+  requestLine(machine, () => current === about);
   requestGrowth(about);
   isConfirmed && requestLaterRow(about);
+}
+
+/** Shows which other machines of the list do the same as the open one. */
+export function compareMachines(/** @type {import("./lines.mjs").Numbered[] | null} */ others) {
+  const about = current;
+  about !== null && compareLines(about.machine, others, () => current === about);
 }
 
 function showFact(/** @type {string} */ id, /** @type {string} */ words) {
@@ -104,27 +111,6 @@ function requestLaterRow(/** @type {About} */ about) {
     const place = `state ${state}, head at ${formatNumber(BigInt(head) + farther)}.`;
     showFact("later", kind === "halt" ? "It has halted." : isWithout ? "The line has no shift." : place);
   });
-}
-
-function requestLine(/** @type {About} */ about) {
-  lineClient.request({ type: "line-of", machine: about.machine }, ({ found, message }) => {
-    if (current === about) {
-      byId("fact-line").replaceChildren(...(found === undefined ? [`Unknown: ${message}.`] : lineParts(found)));
-    }
-  });
-}
-
-/** The line of a machine, by the engine's reply, and the change. */
-function lineParts(/** @type {string} */ reply) {
-  const [machine, , line, side, states, symbols] = reply.split(" ");
-  if (line === machine) return ["It is its own line."];
-  const isOwn = (/** @type {string} */ names) => names === [...names].sort().join("");
-  const changes = [
-    side === "mirror" ? "left and right swapped" : "",
-    isOwn(states) ? "" : `states ${states}`,
-    isOwn(symbols) ? "" : `symbols ${symbols}`,
-  ].filter((change) => change !== "");
-  return [create("code", {}, line), changes.length === 0 ? "" : `, with ${changes.join(", ")}`];
 }
 
 function requestGrowth(/** @type {About} */ about) {

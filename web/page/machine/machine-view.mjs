@@ -13,7 +13,7 @@ import { showInputNotes } from "../input/input-notes.mjs";
 import { Tape } from "../tape/tape.mjs";
 import { WorkerClient } from "../worker-client.mjs";
 import { clearEvidence, showEvidence, diagramSteps } from "./evidence.mjs";
-import { showMachineInfo } from "./machine-info.mjs";
+import { compareMachines, showMachineInfo } from "./machine-info.mjs";
 import { clearRecurrence, showRecurrence } from "./recurrence.mjs";
 
 const NARROW = "(max-width: 900px)";
@@ -150,6 +150,11 @@ export class MachineView {
     });
     const isConfirmed = answer === "ok" || verdict.kind === "undecided";
     showMachineInfo({ ...about, steps, verdict, isConfirmed });
+  }
+
+  /** Shows which other machines of the list do the same as the open one; null stands for too many. */
+  compare(/** @type {import("./lines.mjs").Numbered[] | null} */ others) {
+    if (this.about !== null && this.about.verdict.kind !== "refused") compareMachines(others);
   }
 
   /** Shows the exact start in the diagram and on the tape. */
