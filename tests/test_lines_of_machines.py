@@ -162,6 +162,21 @@ def test_lists_in_another_order_are_found_whole(
         assert (reply.machine, reply.change) == (reply.line, names)
 
 
+def test_number_of_a_line(cover: str, decide_all: Decide, rng: random.Random) -> None:
+    """`cover --line` tells it of a machine of the list's size, after all else; it refuses other texts."""
+    lines = decide_all(3, 2)
+    numbers = {line.partition(" ")[0]: number for number, line in enumerate(lines, 1)}
+    words = [cover, "--steps=%d" % LIST_STEPS]
+    covers = run_command(words, as_lines(lines)).output.decode().rstrip()
+    for reply in lines_of(cover, [machine(rng, 3, 2) for _ in range(20)], LIST_STEPS):
+        done = run_command([*words, "--line", reply.machine], as_lines(lines))
+        assert done.output.decode() == "%s; %s is line %d\n" % (covers, reply.line, numbers[reply.line])
+    done = run_command([*words, "--line=0RA0RA"], as_lines(lines))
+    assert done == (0, ("%s; 0RA--- isn't a line\n" % covers).encode(), b"")
+    done = run_command([*words, "--line=1RB"], as_lines(lines))
+    assert done == (2, b"", b"cover: the text of --line is no machine: refused at column 4\n")
+
+
 def test_lines_by_hand(cover: str) -> None:
     """A first move to the left, states met in another order, the last undefined transition; unread lines."""
     given = ["1LB1RA_1RA1LZ", "1RC---_------_0LA---", "0RA0RA", CHAMPION, "1RB", ""]
