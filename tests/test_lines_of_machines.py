@@ -169,7 +169,7 @@ def test_number_of_a_line(cover: str, decide_all: Decide, rng: random.Random) ->
     words = [cover, "--steps=%d" % LIST_STEPS]
     covers = run_command(words, as_lines(lines)).output.decode().rstrip()
     for reply in lines_of(cover, [machine(rng, 3, 2) for _ in range(20)], LIST_STEPS):
-        done = run_command([*words, "--line", reply.machine], as_lines(lines))
+        done = run_command([*words, "--line=" + reply.machine], as_lines(lines))
         assert done.output.decode() == "%s; %s is line %d\n" % (covers, reply.line, numbers[reply.line])
     done = run_command([*words, "--line=0RA0RA"], as_lines(lines))
     assert done == (0, ("%s; 0RA--- isn't a line\n" % covers).encode(), b"")
