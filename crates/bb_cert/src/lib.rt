@@ -1,4 +1,7 @@
 //! Verdicts on machines, and their lines.
+//!
+//! `verdict` has verdicts with their writer and reader, `claims` laws on them, `records` the records of
+//! a side. `checker` has the checker: `checking` answers, the modules beside it replay a pair.
 #![tactic(auto)]
 
 pub mod checker;

@@ -1,4 +1,6 @@
 //! The program's command line: the work, its limits, and advice on refused limits.
+//!
+//! `command` has `ask`, `options` the options of all programs, `advice` accepted values.
 #![tactic(auto)]
 
 pub mod advice;

@@ -176,13 +176,13 @@ place_with : (sought : Option (List ℕ)) (items : List Item) (item : Item)
 place_with sought [] item = refl
 place_with sought (x ∷ items) item = ap (place_or (is_sought sought x.table)) (place_with sought items item)
     ∙ by (is_sought sought item.table) where
-  by : (found : Bool) → place_or (is_sought sought x.table) (cond found (length items + 1) (place_of sought items))
-      ≡ cond found (length (x ∷ items) + 1) (place_of sought (x ∷ items))
-  by true =
-      let one : length items + 1 ≡ suc (length items) = omega arith in
-      let two : suc (suc (length items)) ≡ suc (length items) + 1 = omega arith in
-      ap (place_or (is_sought sought x.table)) one ∙ two
-  by false = refl
+      by : (found : Bool) → place_or (is_sought sought x.table) (cond found (length items + 1) (place_of sought items))
+          ≡ cond found (length (x ∷ items) + 1) (place_of sought (x ∷ items))
+      by true =
+          let one : length items + 1 ≡ suc (length items) = omega arith in
+          let two : suc (suc (length items)) ≡ suc (length items) + 1 = omega arith in
+          ap (place_or (is_sought sought x.table)) one ∙ two
+      by false = refl
 
 place_more : (sought : Option (List ℕ)) (items : List Item) (item : Item) (read place : ℕ) → read ≡ length items
     → place ≡ place_of sought items → length (items ++ item ∷ []) < 2 ^ 64

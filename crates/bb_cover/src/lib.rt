@@ -1,6 +1,9 @@
 //! Checks whether a list of verdicts settles every machine of a size: its lines are those of a walk in depth
 //! through all of them, each with a claim confirmed by the checker. A list may be a shard, the walk below one
 //! machine, or a skeleton, with lines that stand for shards.
+//!
+//! `list` has `run_cover`, `walk` the machines to visit, `content` a line's verdict or shard. `line`
+//! has `line_of`, and `lines` replies to a list.
 #![tactic(auto)]
 
 mod asked;

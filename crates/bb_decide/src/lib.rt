@@ -1,4 +1,8 @@
 //! Decides a machine within limits: the verdict defined for it, and its cost.
+//!
+//! `decision` has `decide`, `single_pass_decision` has `decide_in_single_pass`; both search in `cycle`,
+//! `translation` and `reasoning`, the backward search. `single_pass` is the single-pass run, with the
+//! parts `register_pass`, `block_pass` and `sprint`.
 #![tactic(auto)]
 
 pub mod bench;

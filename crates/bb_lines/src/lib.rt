@@ -1,4 +1,7 @@
 //! Answers the lines of an input in turn, each by one line of output.
+//!
+//! `lines` is the engine, `sink` one without output; `responder` has the trait for replies, `watched`
+//! streams that keep whether a call failed.
 #![tactic(auto)]
 
 pub mod fault;

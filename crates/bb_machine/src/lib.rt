@@ -1,6 +1,9 @@
 //! Small Turing machines: their texts, their tables, the limits of a run, and the choice of deciders.
 //!
 //! The text is bbchallenge's standard text format for Turing machines, in this project's profile.
+//!
+//! `machine` has tables with their reader and writer, `limits` the limits of a run, `plan` the switches
+//! of deciders.
 #![tactic(auto)]
 
 pub mod entry;

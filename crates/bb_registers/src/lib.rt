@@ -1,5 +1,8 @@
 //! Runs of machines of two symbols and at most seven states, in registers while they stay within 64 cells:
 //! the bits of one number.
+//!
+//! `registers` has a configuration, `table` the machine, `run` one step and its ends. `blocks` runs on
+//! a tape by blocks, and `handover` moves a run to a tape.
 #![tactic(auto)]
 
 pub mod blocks;

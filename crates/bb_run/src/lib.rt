@@ -1,5 +1,8 @@
 //! Engines over readers and writers: verdicts on the machines of a list, answers to verdict lines, and the
 //! trace of one machine; and the validation of replies to a list.
+//!
+//! `deciding`, `checking`, `tracing` and `reply_validation` have a call each; `decider` is the
+//! responder of both ways to decide.
 #![tactic(auto)]
 
 mod checking;

@@ -1,4 +1,6 @@
 //! Runs a machine step by step on any tape, within limits, and counts steps and cells.
+//!
+//! `runner` makes one step, `simulation` a whole run; `meter` counts.
 #![tactic(auto)]
 
 pub mod configurations;

@@ -1,4 +1,6 @@
 //! The tape of a small Turing machine: one trait with laws, and its implementations.
+//!
+//! `tape` has the trait, `map` and `ring` the implementations; `kernels` work on 32 bytes at a time.
 #![tactic(auto)]
 
 mod kernels;
