@@ -1,4 +1,4 @@
-"""What the program prints to standard error beside the fixed lines: causes of faults, hints, and progress."""
+"""What the programs print to standard error beside the fixed lines: causes of faults, hints, and progress."""
 
 from __future__ import annotations
 
@@ -39,6 +39,9 @@ REFUSED = [
     ("decide --cells 256", "depth does not fit in cells", DEEP),
     ("trace --upto %d 1RA1RA" % (MOST + 1), "steps out of range", "--upto " + ABOVE),
 ]
+# The verdict lines of a complete list of one state.
+VERDICTS = b"------ halt 0 0\n0RA--- translated R 1 2 1 1\n1RA--- translated R 1 2 1 1\n"
+FULL = "standard output: No space left on device (os error 28)\n"
 MISSING = ": No such file or directory (os error 2)"
 UNREADABLE = {
     "check FOLDER/missing": "FOLDER/missing" + MISSING,
@@ -61,37 +64,42 @@ SEPARATED = {"1,000,000": "1000000", "1_000": "1000", "1'000": "1000", "1e6": "1
 SEPARATED.update(dict.fromkeys((",1", "1x", "e6", "1e99"), ""))
 
 
-def run_on_terminal(command: Sequence[str], given: bytes, output: str = os.devnull) -> tuple[int, str]:
+def run_on_terminal(command: Sequence[str], given: bytes = b"") -> tuple[int, str]:
     """Return the status of a command, and what its terminal shows after the last line of progress."""
-    with open(output, "wb") as file:
-        status, shown = on_terminal(command, given, file)
+    status, shown = on_terminal(command, given, subprocess.DEVNULL)
     return status, shown.rpartition("\x1b[K")[2]
 
 
 @pytest.mark.parametrize("words, fault, advice", REFUSED)
 def test_refused_limits_are_explained(bb: str, words: str, fault: str, advice: str) -> None:
-    assert run_on_terminal([bb, *words.split()], b"") == (2, "bb: %s\n%s\n" % (fault, advice))
+    assert run_on_terminal([bb, *words.split()]) == (2, "bb: %s\n%s\n" % (fault, advice))
 
 
 @pytest.mark.parametrize("words, cause", UNREADABLE.items())
 def test_failed_reads_are_explained(bb: str, tmp_path: pathlib.Path, words: str, cause: str) -> None:
     named, expected = (text.replace("FOLDER", str(tmp_path)) for text in (words, cause))
-    assert run_on_terminal([bb, *named.split()], b"") == (3, "bb: read failed\n%s\n" % expected)
+    assert run_on_terminal([bb, *named.split()]) == (3, "bb: read failed\n%s\n" % expected)
 
 
-@pytest.mark.parametrize(
-    "word, cause", [("check", "standard output: No space left on device (os error 28)\n"), ("--help", "")]
-)
-def test_failed_writes_are_explained(bb: str, word: str, cause: str) -> None:
-    assert run_on_terminal([bb, word], b"1RA1RA halt 1 1\n", "/dev/full") == (3, "bb: write failed\n" + cause)
-
-
-def test_closed_pipe_leaves_the_fixed_line_alone(bb: str) -> None:
+@pytest.mark.parametrize("words", ["bb check", "cover", "cover --lines", "recurrence"])
+def test_failed_writes_are_explained(request: pytest.FixtureRequest, words: str) -> None:
+    """On a terminal `bb` names the cause too. A closed pipe has none: the command after it knows."""
+    name, *more = words.split()
+    command = [request.getfixturevalue(name), *more]
     reader, writer = os.pipe()
     os.close(reader)
-    status, shown = on_terminal([bb, "decide", "--steps", "9"], LIST, writer)
-    os.close(writer)
-    assert status == 3 and shown.endswith("bb: write failed\n") and "standard output" not in shown
+    with open("/dev/full", "wb") as full, open(writer, "wb") as closed:
+        for output, cause in ((full, FULL), (closed, "")):
+            done = subprocess.run(command, input=VERDICTS, stdout=output, stderr=subprocess.PIPE)
+            sentence = "%s: write failed\n" % name
+            assert done.returncode == 3 and done.stderr.decode() == sentence + cause * (name != "bb")
+            status, shown = on_terminal(command, VERDICTS, output)
+            assert status == 3 and shown.endswith(sentence + cause)
+
+
+def test_failed_write_of_help_is_not_explained(bb: str) -> None:
+    with open("/dev/full", "wb") as full:
+        assert on_terminal([bb, "--help"], b"", full) == (3, "bb: write failed\n")
 
 
 @pytest.mark.parametrize("command, given, hint", HINTS.values(), ids=HINTS)
@@ -103,7 +111,7 @@ def test_first_bytes_of_an_input_give_a_hint(bb: str, command: str, given: bytes
 
 @pytest.mark.parametrize("word, number", SEPARATED.items())
 def test_number_with_separators_gives_a_hint(bb: str, word: str, number: str) -> None:
-    status, shown = run_on_terminal([bb, "decide", "--steps", word], b"")
+    status, shown = run_on_terminal([bb, "decide", "--steps", word])
     hint = "%s: write the number as %s\n" % (word, number)
     assert status == 2 and (shown.endswith(hint) if number else "write the number" not in shown)
     plain = subprocess.run([bb, "decide", "--steps", word], capture_output=True, text=True)
@@ -235,3 +243,15 @@ def test_no_progress_where_standard_output_is_a_terminal(bb: str) -> None:
     with open_terminal() as (terminal, shown):
         subprocess.run([bb, "decide", "--steps", "9"], input=LIST, stdout=terminal, stderr=terminal)
     assert shown and b"%" not in b"".join(shown) and b"\x1b" not in b"".join(shown)
+
+
+@pytest.mark.parametrize(
+    "name, line", [("cover", r"\d+ lines"), ("recurrence", r"\d+ recur, \d+ quasihalt, \d+ open")]
+)
+def test_progress_over_verdicts(
+    request: pytest.FixtureRequest, tmp_path: pathlib.Path, name: str, line: str
+) -> None:
+    (tmp_path / "list").write_bytes(VERDICTS)
+    command = [request.getfixturevalue(name), str(tmp_path / "list")]
+    status, shown = on_terminal(command, b"", subprocess.DEVNULL)
+    assert status == 0 and re.match(r"\r0%% %s\x1b\[K(\r\d+%% %s\x1b\[K)*\r\x1b\[K$" % (line, line), shown)
