@@ -17,7 +17,7 @@ from support.pages import read_blocks
 from support.repository import Done, Repository, repository_without_kit
 from support.shards import skeleton_of
 
-PAGES = ("README.md", "docs/plain.md", "docs/cover.md", "docs/recurrence.md")
+PAGES = ("README.md", "docs/plain.md", "docs/limits.md", "docs/cover.md", "docs/recurrence.md")
 # The usage of a program, and lines that are shown alone.
 NO_COMMANDS = re.compile(r"\w+ (?:\w+ )?\[--|[0-9A-Z-]{3,}_")
 GIVEN = {

@@ -7,12 +7,11 @@ import os
 import pathlib
 import re
 import subprocess
-import threading
 import time
-from typing import Any, Callable, Iterator, Sequence
+from typing import Any, Callable, Iterator, Optional, Sequence
 
 import pytest
-from support.program import kind_of, on_terminal, open_terminal
+from support.program import kind_of, on_terminal, open_terminal, run_command
 
 LIST = b"1RB1LB_1LA1RZ\n0RB---_0LA---\n1RA1RA\n1rB1LB\n1RB---_1LA---\n"
 UNDECIDED = b"1RB0LA_0RC---_1RD0LD_1LA1RZ\n1RB1LC_1RC1RB_1RD0LE_1LA1LD_1RZ0LA\n"
@@ -22,7 +21,17 @@ SLOW = ["--steps", "300000", "--cells", "4096"]
 # How the line of progress names the kinds of verdicts, and the answers of `check`.
 KINDS = {"halt": "halt", "cycler": "cycler", "translated": "transl"}
 KINDS.update({"backward": "back", "undecided": "undec", "refused": "ref"})
+NAMES = list(KINDS.values())
 ANSWERS = ["ok", "bad", "over", "open", "unread"]
+# A claim of each answer; the fourth takes 100,000 steps, so fewer than 100,000 of a kind come between two lines.
+CLAIMS = b"""%(hard)s halt 47176870 4098
+1RZ--- halt 1 1
+%(hard)s undecided steps
+%(hard)s halt 100000 1
+x
+""" % {
+    b"hard": UNDECIDED.split()[1]
+}
 # For so many seconds a list is fed until what is waited for shows; then it counts as lost.
 PATIENCE = 1_800
 # A list is so many times as long as before where it was decided before two lines of progress were shown.
@@ -118,56 +127,42 @@ def test_number_with_separators_gives_a_hint(bb: str, word: str, number: str) ->
     assert plain.stderr == shown
 
 
-def parse(form: str, text: str) -> list[str]:
-    """Return the groups of a form that a whole text has, '' for those that it lacks."""
-    found = re.fullmatch(form, text)
-    assert found is not None, "%r isn't of the form %s" % (text, form)
-    return list(found.groups(default=""))
+# The percent of a line, if any, and each count.
+Progress = tuple[Optional[int], dict[str, int]]
 
 
-def progress_lines(shown: str, names: Sequence[str]) -> Iterator[tuple[int | None, list[int]]]:
-    """Yield the lines of progress that a terminal showed: the percent, if any, and each count."""
+def progress_lines(shown: str, names: Sequence[str]) -> Iterator[Progress]:
+    """Yield the lines of progress that a terminal showed."""
     for line in re.findall(r"\r([^\r\x1b]+)\x1b\[K", shown):
-        percent, what = parse(r"(?:(\d+)% ?)?(.*)", line)
-        counts = dict.fromkeys(names, 0)
-        for part in what.split(", ") if what else []:
-            count, name = parse(r"([1-9]\d*) (\w+)", part)
-            counts[name] += int(count)
-        yield (int(percent) if percent else None), list(counts.values())
+        found = re.fullmatch(r"(?:(\d+)% ?)?((?:[1-9]\d* \w+(?:, (?=.))?)*)", line)
+        assert found, line
+        counts = {name: int(count) for count, name in re.findall(r"(\d+) (\w+)", found[2])}
+        assert set(counts) <= set(names), line
+        yield (int(found[1]) if found[1] else None), {**dict.fromkeys(names, 0), **counts}
 
 
-Progress = tuple[int, str, bytes, pathlib.Path]
+def require_counts(lines: Sequence[Progress], replies: Sequence[str]) -> None:
+    """Require two lines or more, each with the counts of the first replies, by their kinds."""
+    totals = [sum(counts.values()) for _, counts in lines]
+    assert len(lines) >= 2 and totals == sorted(totals)
+    for total, (_, counts) in zip(totals, lines):
+        assert counts == {name: replies[:total].count(name) for name in counts}
 
 
-@pytest.fixture(scope="module")
-def progress(bb: str, tmp_path_factory: pytest.TempPathFactory) -> Progress:
-    """The status, what the terminal shows, and the output over a file, so long that it shows two lines."""
-    listed = tmp_path_factory.mktemp("progress") / "list"
-    times, shown = 1, ""
-    while len(list(progress_lines(shown, list(KINDS.values())))) < 2 and times <= LONGEST:
+def test_progress_over_a_file(bb: str, tmp_path: pathlib.Path) -> None:
+    """The list is so long that two lines are shown; output and status are as without."""
+    listed, lines, times = tmp_path / "list", list[Progress](), 1
+    command = [bb, "decide", *SLOW, str(listed)]
+    while len(lines) < 2 and times <= LONGEST:
         listed.write_bytes(LONG * times)
-        with open(listed.with_name("out"), "wb") as output:
-            status, shown = on_terminal([bb, "decide", *SLOW, str(listed)], b"", output)
-        times *= LONGER
-    return status, shown, listed.with_name("out").read_bytes(), listed
-
-
-def test_progress_changes_neither_output_nor_status(bb: str, progress: Progress) -> None:
-    status, _, output, listed = progress
-    plain = subprocess.run([bb, "decide", *SLOW, str(listed)], capture_output=True)
-    assert (plain.returncode, plain.stdout, plain.stderr) == (status, output, b"")
-
-
-def test_progress_over_a_file(progress: Progress) -> None:
-    _, shown, output, listed = progress
-    lines = list(progress_lines(shown, list(KINDS.values())))
-    assert len(lines) >= 2
-    assert all(sum(a[1]) <= sum(b[1]) for a, b in zip(lines, lines[1:]))
-    kinds = [kind_of(reply) for reply in output.decode().splitlines()]
-    for _, counts in lines:
-        assert counts == [kinds[: sum(counts)].count(name) for name in KINDS]
+        with open(tmp_path / "out", "wb") as output:
+            status, shown = on_terminal(command, b"", output)
+        lines, times = list(progress_lines(shown, NAMES)), times * LONGER
+    plain = run_command(command)
+    assert plain == (status, (tmp_path / "out").read_bytes(), b"")
+    require_counts(lines, [KINDS[kind_of(reply)] for reply in plain.output.decode().splitlines()])
     sizes = [len(line) for line in listed.read_bytes().splitlines(keepends=True)]
-    answered = [100 * sum(sizes[: sum(counts)]) // sum(sizes) for _, counts in lines]
+    answered = [100 * sum(sizes[: sum(counts.values())]) // sum(sizes) for _, counts in lines]
     assert all(percent is not None and percent <= most for (percent, _), most in zip(lines, answered))
     assert shown.endswith("\r\x1b[K") and "\n" not in shown
     assert max(map(len, re.split(r"[\r\x1b]", shown))) <= 79
@@ -192,25 +187,18 @@ def shows_two_lines(shown: bytes) -> bool:
     return len(re.findall(rb"\r\d[^\r\x1b]*\x1b", shown)) >= 2
 
 
-def test_progress_over_a_pipe_has_no_percent(bb: str) -> None:
-    shown, batches = feed([bb, "decide", *SLOW], LONG, shows_two_lines)
-    lines = list(progress_lines(shown.decode(), list(KINDS.values())))
-    assert len(lines) >= 2 and 0 < sum(lines[-1][1]) <= batches * LONG.count(b"\n")
+@pytest.mark.parametrize(
+    "words, batch, names",
+    [(["decide", *SLOW], LONG, NAMES), (["check", "--steps", "100000"], CLAIMS * 40, ANSWERS)],
+)
+def test_progress_over_a_pipe_has_no_percent(
+    bb: str, words: list[str], batch: bytes, names: Sequence[str]
+) -> None:
+    shown, batches = feed([bb, *words], batch, shows_two_lines)
+    lines = list(progress_lines(shown.decode(), names))
+    replies = run_command([bb, *words], batch).output.decode().splitlines()
+    require_counts(lines, [KINDS[kind_of(one)] if " " in one else one for one in replies] * batches)
     assert all(percent is None for percent, _ in lines)
-
-
-def test_progress_of_a_check_counts_answers(bb: str) -> None:
-    """The fourth claim takes 100,000 steps, so fewer than 100,000 of a kind come between two lines."""
-    hard = UNDECIDED.split()[1]
-    claims = [hard + b" halt 47176870 4098", b"1RZ--- halt 1 1", hard + b" undecided steps"]
-    claims += [hard + b" halt 100000 1", b"x"]
-    answers = ["over", "ok", "open", "bad", "unread"]
-    batch = b"\n".join(claims * 40) + b"\n"
-    shown, batches = feed([bb, "check", "--steps", "100000"], batch, shows_two_lines)
-    lines = list(progress_lines(shown.decode(), ANSWERS))
-    first = answers * (batches * 40)
-    expected = [[first[: sum(counts)].count(answer) for answer in ANSWERS] for _, counts in lines]
-    assert len(lines) >= 2 and [counts for _, counts in lines] == expected
 
 
 def test_large_counts_are_in_thousands_and_millions(bb: str) -> None:
@@ -223,20 +211,13 @@ def test_large_counts_are_in_thousands_and_millions(bb: str) -> None:
     assert max(units[b""], default=0) < 100_000
 
 
-def test_no_progress_where_standard_output_is_a_pipe(bb: str) -> None:
-    reader, writer = os.pipe()
-    with open(reader, "rb") as end:
-        listening = threading.Thread(target=end.read)
-        listening.start()
-        _, shown = on_terminal([bb, "decide", *SLOW], LONG[:4000], writer)
-        os.close(writer)
-        listening.join()
-    assert shown == ""
-
-
-def test_no_progress_where_standard_output_is_a_device(bb: str) -> None:
-    with open("/dev/full", "wb") as output:
-        assert on_terminal([bb, "decide", *SLOW], LONG[:4000], output)[1].startswith("bb: write failed\n")
+def test_no_progress_where_standard_output_is_a_pipe_or_a_device(bb: str) -> None:
+    command, given = [bb, "decide", *SLOW], LONG[:4000]
+    with subprocess.Popen(["cat"], stdin=subprocess.PIPE, stdout=subprocess.DEVNULL) as reader:
+        assert reader.stdin
+        assert on_terminal(command, given, reader.stdin)[1] == ""
+    with open("/dev/full", "wb") as full:
+        assert on_terminal(command, given, full)[1].startswith("bb: write failed\n")
 
 
 def test_no_progress_where_standard_output_is_a_terminal(bb: str) -> None:
