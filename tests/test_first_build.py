@@ -33,7 +33,12 @@ TARGETS = {
     "web": "",
     "npm": "",
 }
-OLD = 'case ${0##*/} in cargo) echo "cargo 1.65.0";; *) echo "rustc 1.63.0";; esac'
+# A script in the place of cargo and rustc, and words of the sentence.
+TOOLS = {
+    "case ${0##*/} in cargo) echo 'cargo 1.65.0';; *) echo 'rustc 1.63.0';; esac": "cargo 1.65.0 is too old; 1.88; "
+    "rustc-web; cargo-web",
+    "echo 'no default is configured' >&2; exit 1": "`cargo --version` prints no version; rustup",
+}
 pytestmark = pytest.mark.needs("cargo", "rustc", "make", "cc")
 
 
@@ -49,12 +54,6 @@ def repository(tmp_path: pathlib.Path) -> Repository:
     for name in ("bb_machine", "bb_c"):
         made.write("crates/%s/src/lib.rt" % name, "//! Nothing.\n")
     return made
-
-
-def replace_tools(repository: Repository, script: str) -> None:
-    """Let a script take the place of cargo and rustc."""
-    for name in ("cargo", "rustc"):
-        repository.add_program(name, script)
 
 
 def require_sentence(done: Done, *words: str, status: int = 3) -> None:
@@ -121,14 +120,11 @@ def test_no_cargo(repository: Repository) -> None:
     require_sentence(repository.run("./bb"), "cargo isn't installed", "rustc-web", "cargo-web", "rustup")
 
 
-def test_old_cargo(repository: Repository) -> None:
-    replace_tools(repository, OLD)
-    require_sentence(repository.run("./cover"), "cargo 1.65.0 is too old", "1.88", "rustc-web", "cargo-web")
-
-
-def test_cargo_without_a_toolchain(repository: Repository) -> None:
-    replace_tools(repository, "echo 'no default is configured' >&2; exit 1")
-    require_sentence(repository.run("./bb"), "`cargo --version` prints no version", "rustup")
+@pytest.mark.parametrize("script, words", TOOLS.items())
+def test_cargo_that_cannot_build(repository: Repository, script: str, words: str) -> None:
+    for name in ("cargo", "rustc"):
+        repository.add_program(name, script)
+    require_sentence(repository.run("./cover"), *words.split("; "))
 
 
 @pytest.mark.parametrize("present", [[], ["clap-4.0.32"], ["arrayvec-0.7.2", "clap-4.0.32", "itoa-1.0.1"]])
