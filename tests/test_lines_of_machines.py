@@ -1,7 +1,10 @@
-"""`cover --lines`: each machine's line is in the complete list of its size, and its verdict is the machine's."""
+"""`cover --lines`: each machine's line is in the complete list of its size, and the machine completes it.
+
+`python/tests/system/test_settle.py` has what its verdict tells of the machine.
+"""
 
 import random
-from typing import Iterator, NamedTuple
+from typing import NamedTuple
 
 import pytest
 from support import ListMachines
@@ -73,25 +76,14 @@ def is_completed(line: str, text: str) -> bool:
     return all(first in ("---", second) for first, second in pairs)
 
 
-def told(reply: Reply, verdict: str) -> Iterator[str]:
-    """The verdict of the machine by that of its line, where it has numbers of its own."""
-    kind = verdict.split(" ")[0]
-    if kind in ("cycler", "translated"):
-        yield reply.change.verdict(verdict)
-    if kind == "halt" and reply.end[3] == "---":
-        yield verdict
-
-
 @pytest.mark.parametrize("states, symbols", [*SIZES, *LARGE])
-def test_lines_of_random_machines_are_listed_and_tell_their_verdicts(
-    cover: str, bb: str, decide_all: Decide, rng: random.Random, states: int, symbols: int
+def test_lines_of_random_machines_are_listed(
+    cover: str, decide_all: Decide, rng: random.Random, states: int, symbols: int
 ) -> None:
-    """Told verdicts are those of `bb decide` under the list's limits, and `bb check` confirms them."""
     listed = dict(line.split(" ", 1) for line in decide_all(states, symbols))
     machines = [machine(rng, states, symbols) for _ in range(COUNT)]
     replies = lines_of(cover, machines, LIST_STEPS)
     assert [reply.machine for reply in replies] == machines
-    claims = []
     for reply in replies:
         assert reply.line == walk_of(reply.machine, LIST_STEPS)
         assert is_completed(reply.change.machine(reply.line), reply.machine)
@@ -99,10 +91,6 @@ def test_lines_of_random_machines_are_listed_and_tell_their_verdicts(
         assert (reply.end[0] == "halt") == verdict.startswith("halt ")
         if reply.end[0] == "halt":
             assert verdict == " ".join(reply.end[:3])
-        claims += ["%s %s" % (reply.machine, claim) for claim in told(reply, verdict)]
-    print("%d claims of %d machines" % (len(claims), COUNT))
-    assert len(claims) > COUNT // 2
-    assert run_command([bb, "check"], as_lines(claims)).output == b"ok\n" * len(claims)
 
 
 @pytest.mark.parametrize("states, symbols", SIZES)
