@@ -1,7 +1,7 @@
-"""Conclusions from verdicts: about mirrored, renamed and completed machines, later steps and other starts.
+"""Conclusions from verdicts: about mirrored, renamed and completed machines, and other starts.
 
 The machines are those of two states and two symbols, padded to three for renamings. Conclusions that only
-look alike must fail for some machine.
+look alike must fail for some machine. Those about later steps are in `python/tests/unit/test_engine.py`.
 """
 
 from __future__ import annotations
@@ -21,8 +21,8 @@ TREES_ALONE = ["--no-cyclers", "--no-translated"]
 # The limits of random machines, and how many there are under each.
 RANDOM_LIMITS = (options((50, 9, 5, 20)), LIMITS)
 BATCH = 250
-# How many steps of a run are simulated, and how many more than a tree has levels.
-FOLLOWED, BEYOND = 60, 20
+# How many more steps are simulated than a tree has levels.
+BEYOND = 20
 Words = Sequence[str]
 
 
@@ -133,31 +133,6 @@ def test_no_completion_halts_where_a_tree_ends(bb: str, machines: list[str]) -> 
     assert not [now for now in decide(bb, others) if now.startswith("halt ")]
     assert [verdict for verdict, _ in cases] != decide(bb, others, TREES_ALONE)
     print("%d completions by a tree" % len(cases))
-
-
-def predict(verdict: str, first_places: Sequence[tuple[int | None, int]]) -> list[tuple[int | None, int]]:
-    """Predict the state and the head's position at each step from a pair, by those up to its second step."""
-    kind, *rest = verdict.split(" ")
-    moved = kind == "translated"
-    first, second = map(int, rest[1:3] if moved else rest)
-    shift = int(rest[3]) * (1 if rest[0] == "R" else -1) if moved else 0
-    places = []
-    for step in range(FOLLOWED + 1):
-        times, part = divmod(max(step - first, 0), second - first)
-        state, head = first_places[min(step, first) + part]
-        places.append((state, head + times * shift))
-    return places
-
-
-def test_pairs_predict_later_steps(bb: str, machines: list[str]) -> None:
-    count = 0
-    for text, verdict in zip(machines, decide(bb, machines)):
-        if verdict.startswith(("cycler ", "translated ")):
-            places = [(now.state, now.head) for now in simulate(text, FOLLOWED)]
-            assert predict(verdict, places) == places, (text, verdict)
-            count += 1
-    assert count
-    print("%d machines, %d steps each" % (count, FOLLOWED))
 
 
 def latest_halt(text: str, levels: int) -> int:
