@@ -6,7 +6,7 @@ import subprocess
 
 import pytest
 from support import TOP, require
-from support.machines import machine, random_machines, spoil
+from support.machines import machine, random_machines
 from support.program import PLANS, ROWS, SIMULATION, as_lines, build_peer, kind_of, options, replies
 from support.program import run_command
 from support.simulation import decide_confirmed
@@ -48,18 +48,19 @@ def other(request: pytest.FixtureRequest, tmp_path_factory: pytest.TempPathFacto
     return build_peer(tmp_path_factory.mktemp(name), name, "--cfg", choice)
 
 
-def draw_lines(source: random.Random, is_small: bool) -> bytes:
-    """Draw machines: half of them have 2 symbols, seven of ten at most 5 states.
+def draw_machine(source: random.Random) -> str:
+    """Draw a machine: half of them have 2 symbols, seven of ten at most 5 states."""
+    states = source.randint(1, 5 if source.random() < 0.7 else 25)
+    return machine(source, states, source.choice([2, source.randint(2, 10)]))
 
-    Small ones have 2 symbols and at most 7 states. One of five is spoilt then, one line is long, and the last one
-    has no newline.
-    """
-    if is_small:
-        lines = [machine(source, source.randint(1, 7), 2) for _ in range(BATCH)]
-        spoilt = [spoil(source, line) if source.random() < 0.2 else line for line in lines]
-        return as_lines([*spoilt, "1RA1RA" + "x" * 150_000]) + machine(source, 2, 2).encode()
-    states = [source.randint(1, 5 if source.random() < 0.7 else 25) for _ in range(BATCH)]
-    return as_lines(machine(source, count, source.choice([2, source.randint(2, 10)])) for count in states)
+
+def draw_small_line(source: random.Random) -> str:
+    """Draw a machine of 2 symbols and at most 7 states; one of ten lines is cut short, one has a letter wrong."""
+    line, spoilt = machine(source, source.randint(1, 7), 2), source.random()
+    at = source.randrange(len(line))
+    if spoilt < 0.1:
+        return line[:at]
+    return line[:at] + source.choice("aZ_\r\0") + line[at + 1 :] if spoilt < 0.2 else line
 
 
 def draw_options(source: random.Random) -> list[str]:
@@ -81,9 +82,13 @@ def decide_alike(bb: str, other: str, given: bytes, words: list[str]) -> list[st
 
 @pytest.mark.parametrize("count", [2_000, pytest.param(100_000, marks=pytest.mark.slow)])
 def test_plain_programs_write_the_same_bytes(bb: str, other: str, rng: random.Random, count: int) -> None:
+    """That for speed also of lines that are no machines, one of them long, and without a newline at the end."""
     is_small, kinds = other.endswith("limit"), set[str]()
     for _ in range(count // BATCH):
-        lines = decide_alike(bb, other, draw_lines(rng, is_small), draw_options(rng))
+        given = as_lines((draw_small_line if is_small else draw_machine)(rng) for _ in range(BATCH))
+        if is_small:
+            given += b"1RA1RA" + b"x" * 150_000 + b"\n" + machine(rng, 2, 2).encode()
+        lines = decide_alike(bb, other, given, draw_options(rng))
         assert len(lines) == BATCH + 2 * is_small
         kinds.update(map(kind_of, lines))
     assert kinds == KINDS | ({"refused"} if is_small else set())
