@@ -15,7 +15,6 @@ import pytest
 from support import TOP, list_files
 from support.pages import read_blocks
 from support.repository import Done, Repository, repository_without_kit
-from support.shards import skeleton_of
 
 PAGES = ("README.md", "docs/plain.md", "docs/limits.md", "docs/cover.md", "docs/recurrence.md")
 # The usage of a program, and lines that are shown alone.
@@ -102,11 +101,13 @@ def test_blocks_do_as_the_page_says(built: Repository, page: str) -> None:
 
 
 def write_skeleton(repository: Repository) -> None:
-    """Write the skeleton of four states, from the list in one piece."""
-    listed = repository.run("tools/tree_normal_form --states 4 | ./bb decide --steps 200").stdout
-    items = repository.run("tools/tree_normal_form --states 4 --shards 3").stdout
-    lines = skeleton_of(listed.splitlines(), items.splitlines())
-    repository.write("skeleton.txt", "\n".join(lines) + "\n")
+    """Write the skeleton of four states, by the package's command."""
+    library = repository.top / "out/plain/target/release/libbb.so"
+    words = 'PATH="$PWD:$PWD/tools:$PATH" /usr/bin/python3 -m budlarem shards shards --states 4 --steps 200'
+    done = repository.run(
+        words + " && cp shards/skeleton.txt .", PYTHONPATH="python/src", BB_LIBRARY=str(library)
+    )
+    assert done.returncode == 0, done.stderr
 
 
 def test_blocks_name_what_is_missing(unbuilt: Repository) -> None:

@@ -22,17 +22,6 @@ def shard_line(machine: str, lines: list[str]) -> str:
     return "%s below %d %d %d %s" % (machine, len(lines), len(undecided), wide, digest)
 
 
-def skeleton_of(lines: list[str], items: list[str]) -> list[str]:
-    """Return a list's skeleton, by its machines; those of shards end in `below`."""
-    places = {line.split(" ")[0]: place for place, line in enumerate(lines)}
-    starts = [places[item.split(" ")[0]] for item in items] + [len(lines)]
-    pieces = zip(items, starts, starts[1:])
-    return [
-        shard_line(item.split(" ")[0], lines[start:end]) if item.endswith(" below") else lines[start]
-        for item, start, end in pieces
-    ]
-
-
 def summarize_bound(lines: Collection[str], assumed: Collection[str] = (), where: str = "") -> str:
     """Return the end of the line, of a list or of the lines of a skeleton, if some machines are assumed."""
     halts = re.findall(r" halt (\d+) (\d+)$", "\n".join(lines), flags=re.M)
