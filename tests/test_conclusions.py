@@ -14,13 +14,15 @@ import pytest
 from support.machines import Change, all_machines, entries_of, join_groups, machine, random_change
 from support.machines import table_of
 from support.program import PLANS, decide_machines, options, replies
-from support.simulation import compare_lines, simulate
+from support.simulation import compare_lines, find_undefined, simulate
 
 LIMITS = options((1_000, 64, 20, 1_000))
 TREES_ALONE = ["--no-cyclers", "--no-translated"]
 # The limits of random machines, and how many there are under each.
 RANDOM_LIMITS = (options((50, 9, 5, 20)), LIMITS)
 BATCH = 250
+# No machine of two states and two symbols halts later.
+LONGEST = 6
 # How many more steps are simulated than a tree has levels.
 BEYOND = 20
 Words = Sequence[str]
@@ -41,9 +43,6 @@ def check(bb: str, machines: Words, claims: Words, limits: Words = LIMITS) -> li
     return replies([bb, "check", *limits], ["%s %s" % pair for pair in zip(machines, claims)])
 
 
-MIRROR = Change(True, (0, 1), (0, 1))
-
-
 def compare_changed(
     bb: str, machines: Words, changes: Sequence[Change], plan: Words = (), limits: Words = LIMITS
 ) -> None:
@@ -58,17 +57,13 @@ def compare_changed(
         compare_lines("answers", answers[1], answers[0], machines)
 
 
-def test_mirrored_machines_have_mirrored_verdicts(bb: str, machines: list[str]) -> None:
-    compare_changed(bb, machines, [MIRROR] * len(machines))
-
-
 @pytest.mark.parametrize("plan", [[], TREES_ALONE], ids=["all deciders", "trees alone"])
-@pytest.mark.parametrize("mirrored", [False, True])
-def test_renamed_machines_have_the_same_verdicts(
-    bb: str, machines: Words, mirrored: bool, plan: Words
+@pytest.mark.parametrize("mirrored, names", [(True, (0, 1, 2)), (False, (0, 2, 1)), (True, (0, 2, 1))])
+def test_mirrored_and_renamed_machines_have_the_same_verdicts(
+    bb: str, machines: Words, mirrored: bool, names: Sequence[int], plan: Words
 ) -> None:
     padded = ["_".join(group + "---" for group in text.split("_")) + "_---------" for text in machines]
-    compare_changed(bb, padded, [Change(mirrored, (0, 2, 1), (0, 2, 1))] * len(machines), plan)
+    compare_changed(bb, padded, [Change(mirrored, names, names)] * len(machines), plan)
 
 
 @pytest.mark.parametrize("count", [1_500, pytest.param(12_000, marks=pytest.mark.slow)])
@@ -95,14 +90,6 @@ def completions(text: str) -> Iterator[tuple[str, tuple[int, ...]]]:
             yield join_groups(new, 2), filled
 
 
-def find_undefined(text: str, verdict: str) -> int | None:
-    """Return the `---` on which a machine halts, as state and symbol in one number; None where it doesn't."""
-    if not verdict.startswith("halt "):
-        return None
-    *_, last = simulate(text, int(verdict.split(" ")[1]))
-    return None if last.state is None else 2 * last.state + last.tape.get(last.head, 0)
-
-
 @pytest.mark.parametrize("fills_met", [False, True])
 def test_completions_keep_halts_and_pairs(bb: str, machines: list[str], fills_met: bool) -> None:
     """A filled `---` that the run doesn't meet keeps the verdict; the one that it halts on changes it."""
@@ -111,7 +98,7 @@ def test_completions_keep_halts_and_pairs(bb: str, machines: list[str], fills_me
         for text, verdict in zip(machines, decide(bb, machines))
         if verdict.split(" ")[0] in ("halt", "cycler", "translated")
         for other, filled in completions(text)
-        if (find_undefined(text, verdict) in filled) == fills_met
+        if (verdict.startswith("halt ") and find_undefined(text, LONGEST) in filled) == fills_met
     ]
     verdicts, others = [verdict for verdict, _ in cases], [other for _, other in cases]
     found = decide(bb, others)
