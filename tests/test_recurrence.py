@@ -28,29 +28,16 @@ def test_replies_are_those_of_a_brute_force(
         compare_lines("replies", replies([recurrence, *words.split()], verdicts), expected)
 
 
-@pytest.mark.parametrize(
-    "words, line, reply",
-    [
-        # The machines of two, three and two states with the latest quasihalt that is known.
-        ("", "1RB1LB_1LB1LA {}", "1RB1LB_1LB1LA recurs 6 1 -1 5 * quasihalts 6"),
-        ("", "1RB0LB_1LA0RC_1LC1LA {}", "1RB0LB_1LA0RC_1LC1LA recurs 55 1 -1 53 54 * quasihalts 55"),
-        ("--entries", "0RB---_0LA---  cycler 2 4", "unread"),
-        ("--entries", "0RB---_0LA--- cycler 2 4", "0RB---_0LA--- recurs 0 2 0 * * entries * - * -"),
-        ("", "0RB---_0LA--- cycler 2 5", "bad"),
-        ("--steps=3", "0RB---_0LA--- cycler 2 4", "over"),
-        ("", "1RB1LB_1LA1RZ halt 6 4", "open"),
-        ("", "0RB---_0LA--- backward 2 4", "open"),
-        ("", "1RB1LB_1LA1RZ undecided steps", "open"),
-        ("", "refused 14", "open"),
-        ("", "1RB1LB_1LA1RZ", "unread"),
-    ],
-)
-def test_replies(bb: str, recurrence: str, words: str, line: str, reply: str) -> None:
-    machine = line.split()[0]
-    (verdict,) = replies([bb, "decide"], [machine]) if line.endswith("{}") else [line]
-    status, output, error = run_command([recurrence, *words.split()], as_lines([verdict]))
-    is_clean = reply == "open" or " recurs " in reply
-    assert (status, output.decode(), error) == (0 if is_clean else 1, reply + "\n", b"")
+def test_statuses(bb: str, recurrence: str) -> None:
+    """The machines of two and three states with the latest quasihalt that is known, and a line of each fault."""
+    recurs = ["1RB1LB_1LB1LA recurs 6 1 -1 5 * quasihalts 6"]
+    recurs += ["1RB0LB_1LA0RC_1LC1LA recurs 55 1 -1 53 54 * quasihalts 55"]
+    verdicts = replies([bb, "decide"], [reply.split(" ")[0] for reply in recurs])
+    done = run_command([recurrence], as_lines([*verdicts, "0RB---_0LA--- backward 2 4"]))
+    assert done == (0, as_lines([*recurs, "open"]), b"")
+    for steps, line, reply in [(9, "cycler 2 5", "bad"), (3, "cycler 2 4", "over"), (9, "", "unread")]:
+        done = run_command([recurrence, "--steps=%d" % steps], as_lines(["0RB---_0LA--- " + line]))
+        assert done == (1, as_lines([reply]), b"")
 
 
 def test_greatest_machine(bb: str, recurrence: str) -> None:
