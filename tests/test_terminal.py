@@ -40,23 +40,26 @@ MOST = 10**12
 ABOVE = "%d is not within 0 to %d" % (MOST + 1, MOST)
 # Words, and the whole of standard error. FOLDER stands for a folder.
 DEEP = "--depth 300 needs --cells 599 or more; with --cells 256 a depth up to 128"
-REFUSED = [
-    ("decide --steps %d" % (MOST + 1), "steps out of range", "--steps " + ABOVE),
-    ("decide --cells 0", "cells out of range", "--cells 0 is not within 1 to 67108864"),
-    ("decide --depth 10001", "depth out of range", "--depth 10001 is not within 0 to 10000"),
-    ("decide --nodes %d" % (MOST + 1), "nodes out of range", "--nodes " + ABOVE),
-    ("decide --cells 256", "depth does not fit in cells", DEEP),
-    ("trace --upto %d 1RA1RA" % (MOST + 1), "steps out of range", "--upto " + ABOVE),
+MISSING = ": No such file or directory (os error 2)"
+EXPLAINED = [
+    ("decide --steps %d" % (MOST + 1), 2, "steps out of range", "--steps " + ABOVE),
+    ("decide --cells 0", 2, "cells out of range", "--cells 0 is not within 1 to 67108864"),
+    ("decide --depth 10001", 2, "depth out of range", "--depth 10001 is not within 0 to 10000"),
+    ("decide --nodes %d" % (MOST + 1), 2, "nodes out of range", "--nodes " + ABOVE),
+    ("decide --cells 256", 2, "depth does not fit in cells", DEEP),
+    ("trace --upto %d 1RA1RA" % (MOST + 1), 2, "steps out of range", "--upto " + ABOVE),
+    ("check FOLDER/missing", 3, "read failed", "FOLDER/missing" + MISSING),
+    (
+        "decide -",
+        3,
+        "read failed",
+        "-%s; - is no file name here, and without FILE standard input is read" % MISSING,
+    ),
+    ("decide FOLDER", 3, "read failed", "FOLDER: Is a directory (os error 21)"),
 ]
 # The verdict lines of a complete list of one state.
 VERDICTS = b"------ halt 0 0\n0RA--- translated R 1 2 1 1\n1RA--- translated R 1 2 1 1\n"
 FULL = "standard output: No space left on device (os error 28)\n"
-MISSING = ": No such file or directory (os error 2)"
-UNREADABLE = {
-    "check FOLDER/missing": "FOLDER/missing" + MISSING,
-    "decide -": "-%s; - is no file name here, and without FILE standard input is read" % MISSING,
-    "decide FOLDER": "FOLDER: Is a directory (os error 21)",
-}
 MACHINE = b"1RB1LB_1LA1RZ"
 RETURN = "line 1 ends in a carriage return: remove them all first, by tr -d '\\r'\n"
 GZIP = "the input is compressed by gzip: unpack it first, by gzip -dc\n"
@@ -79,15 +82,12 @@ def run_on_terminal(command: Sequence[str], given: bytes = b"") -> tuple[int, st
     return status, shown.rpartition("\x1b[K")[2]
 
 
-@pytest.mark.parametrize("words, fault, advice", REFUSED)
-def test_refused_limits_are_explained(bb: str, words: str, fault: str, advice: str) -> None:
-    assert run_on_terminal([bb, *words.split()]) == (2, "bb: %s\n%s\n" % (fault, advice))
-
-
-@pytest.mark.parametrize("words, cause", UNREADABLE.items())
-def test_failed_reads_are_explained(bb: str, tmp_path: pathlib.Path, words: str, cause: str) -> None:
-    named, expected = (text.replace("FOLDER", str(tmp_path)) for text in (words, cause))
-    assert run_on_terminal([bb, *named.split()]) == (3, "bb: read failed\n%s\n" % expected)
+@pytest.mark.parametrize("words, status, fault, more", EXPLAINED)
+def test_refused_limits_and_failed_reads_are_explained(
+    bb: str, tmp_path: pathlib.Path, words: str, status: int, fault: str, more: str
+) -> None:
+    named, expected = (text.replace("FOLDER", str(tmp_path)) for text in (words, more))
+    assert run_on_terminal([bb, *named.split()]) == (status, "bb: %s\n%s\n" % (fault, expected))
 
 
 @pytest.mark.parametrize("words", ["bb check", "cover", "cover --lines", "recurrence"])
