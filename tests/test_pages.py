@@ -12,8 +12,7 @@ import shutil
 from typing import Iterator
 
 import pytest
-from support import TOP, list_files
-from support.pages import read_blocks
+from support import TOP, list_files, read_blocks
 from support.repository import Done, Repository, repository_without_kit
 
 PAGES = ("README.md", "docs/plain.md", "docs/limits.md", "docs/cover.md", "docs/recurrence.md")

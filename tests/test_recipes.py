@@ -17,8 +17,7 @@ import time
 from typing import Any
 
 import pytest
-from support import TOP, ListMachines, require, restore_signals
-from support.pages import read_blocks
+from support import TOP, ListMachines, read_blocks, require, restore_signals
 from support.program import GREATEST, CommandResult, as_lines, decide_in_passes, kind_of, options
 from support.program import options_of_pass, place_programs, run_command, write_script
 
