@@ -1,8 +1,7 @@
-"""Command lines of the program: files, exit statuses, and standard error."""
+"""Command lines of the programs: files, exit statuses, and standard error."""
 
 import os
 import pathlib
-import subprocess
 
 import pytest
 from support.program import run_command
@@ -15,7 +14,7 @@ ANSWERS = b"ok\nok\nok\nopen\nopen\n"
 UNREAD, DEPTH = b"bb: read failed\n", b"bb: depth does not fit in cells\n"
 CUT = b"the trace is cut: its next step needs more than --cells 2\n"
 Case = tuple[str, str, bytes, int, bytes, bytes]
-# Name, words, standard input, status, standard output, and a part of standard error. The words LISTED,
+# Name, words, standard input, status, standard output, and standard error, of status 2 a part. The words LISTED,
 # CLAIMED, MISSING and FOLDER stand for paths.
 CASES: list[Case] = [
     ("a file is read", "decide LISTED", b"------\n", 0, VERDICTS, b""),
@@ -47,12 +46,33 @@ CASES: list[Case] = [
 ]
 
 
+# Words of the programs that read a list of verdicts, the status, and what follows their name on standard error.
+LIST_CASES = [
+    ("--steps 1000000000001", 2, "steps out of range"),
+    ("--cells 0", 2, "cells out of range"),
+    ("MISSING", 3, "read failed\nMISSING: No such file or directory (os error 2)"),
+    ("FOLDER", 3, "read failed\nFOLDER: Is a directory (os error 21)"),
+]
+TREE_CASES = [
+    ("--depth 10001", 2, "depth out of range"),
+    ("--nodes 1000000000001", 2, "nodes out of range"),
+    ("--cells 1 --depth 2", 2, "depth does not fit in cells"),
+    ("--assume FOLDER", 3, "read failed\nFOLDER: Is a directory (os error 21)"),
+    ("--assume ASSUMED", 2, "line 3 of the file of --assume isn't MACHINE nonhalt"),
+    ("--lines MISSING", 3, "read failed\nMISSING: No such file or directory (os error 2)"),
+]
+OF_LISTS = [("recurrence", *case) for case in LIST_CASES]
+OF_LISTS += [("cover", *case) for case in LIST_CASES + TREE_CASES]
+
+
 @pytest.fixture
 def paths(tmp_path: pathlib.Path) -> dict[str, str]:
     """The files that the command lines name."""
     (tmp_path / "machines.txt").write_bytes(MACHINES)
     (tmp_path / "claims.txt").write_bytes(CLAIMS)
-    names = {"LISTED": "machines.txt", "CLAIMED": "claims.txt", "MISSING": "missing.txt", "FOLDER": ""}
+    (tmp_path / "assumed.txt").write_text("0RA--- nonhalt\n\n0RA--- halt\n0RA---\n")
+    names = {"LISTED": "machines.txt", "CLAIMED": "claims.txt", "ASSUMED": "assumed.txt"}
+    names.update(MISSING="missing.txt", FOLDER="")
     return {word: str(tmp_path / name) for word, name in names.items()}
 
 
@@ -64,14 +84,35 @@ def test_command_line(bb: str, paths: dict[str, str], case: Case) -> None:
     assert done.error == error if status in (0, 1, 3) else error in done.error
 
 
+@pytest.mark.parametrize("name, words, status, error", OF_LISTS)
+def test_command_line_of_a_list(
+    request: pytest.FixtureRequest, paths: dict[str, str], name: str, words: str, status: int, error: str
+) -> None:
+    """The list isn't read: the words come first, and the first wrong line of the file of assumptions."""
+    for word, path in paths.items():
+        error = error.replace(word, path)
+    command = [request.getfixturevalue(name), *(paths.get(word, word) for word in words.split())]
+    assert run_command(command, b"x\n") == (status, b"", ("%s: %s\n" % (name, error)).encode())
+
+
+@pytest.mark.parametrize(
+    "words, named",
+    [("cover --assume a --assume b", b"--assume"), ("cover a b", b"b"), ("recurrence a b", b"b")],
+)
+def test_files_too_many(request: pytest.FixtureRequest, words: str, named: bytes) -> None:
+    name, *more = words.split()
+    done = run_command([request.getfixturevalue(name), *more])
+    assert done[:2] == (2, b"") and b"'%s" % named in done.error
+
+
+@pytest.mark.parametrize("name", ["bb", "cover", "recurrence"])
+def test_version_goes_to_standard_output(request: pytest.FixtureRequest, name: str) -> None:
+    status, output, error = run_command([request.getfixturevalue(name), "--version"])
+    assert status == 0 and output.startswith(name.encode() + b" ") and not error
+
+
 @pytest.mark.parametrize("command", [[], ["decide"], ["check"], ["trace"]])
 def test_help_goes_to_standard_output(bb: str, command: list[str]) -> None:
     status, output, error = run_command([bb, *command, "--help"])
     assert status == 0 and b"Usage" in output and not error
     assert run_command([bb, "help", *command]) == (0, output, b"")
-
-
-def test_failed_write_is_named_on_standard_error(bb: str) -> None:
-    with open("/dev/full", "wb") as full:
-        done = subprocess.run([bb, "decide"], input=MACHINES, stdout=full, stderr=subprocess.PIPE)
-    assert (done.returncode, done.stderr) == (3, b"bb: write failed\n")

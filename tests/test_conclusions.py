@@ -1,7 +1,7 @@
-"""Conclusions from verdicts: about mirrored, renamed and completed machines, later steps and other starts.
+"""Conclusions from verdicts: about mirrored, renamed and completed machines, and other starts.
 
 The machines are those of two states and two symbols, padded to three for renamings. Conclusions that only
-look alike must fail for some machine.
+look alike must fail for some machine. Those about later steps are in `python/tests/unit/test_engine.py`.
 """
 
 from __future__ import annotations
@@ -14,15 +14,17 @@ import pytest
 from support.machines import Change, all_machines, entries_of, join_groups, machine, random_change
 from support.machines import table_of
 from support.program import PLANS, decide_machines, options, replies
-from support.simulation import compare_lines, simulate
+from support.simulation import compare_lines, find_undefined, simulate
 
 LIMITS = options((1_000, 64, 20, 1_000))
 TREES_ALONE = ["--no-cyclers", "--no-translated"]
 # The limits of random machines, and how many there are under each.
 RANDOM_LIMITS = (options((50, 9, 5, 20)), LIMITS)
 BATCH = 250
-# How many steps of a run are simulated, and how many more than a tree has levels.
-FOLLOWED, BEYOND = 60, 20
+# No machine of two states and two symbols halts later.
+LONGEST = 6
+# How many more steps are simulated than a tree has levels.
+BEYOND = 20
 Words = Sequence[str]
 
 
@@ -41,9 +43,6 @@ def check(bb: str, machines: Words, claims: Words, limits: Words = LIMITS) -> li
     return replies([bb, "check", *limits], ["%s %s" % pair for pair in zip(machines, claims)])
 
 
-MIRROR = Change(True, (0, 1), (0, 1))
-
-
 def compare_changed(
     bb: str, machines: Words, changes: Sequence[Change], plan: Words = (), limits: Words = LIMITS
 ) -> None:
@@ -58,17 +57,13 @@ def compare_changed(
         compare_lines("answers", answers[1], answers[0], machines)
 
 
-def test_mirrored_machines_have_mirrored_verdicts(bb: str, machines: list[str]) -> None:
-    compare_changed(bb, machines, [MIRROR] * len(machines))
-
-
 @pytest.mark.parametrize("plan", [[], TREES_ALONE], ids=["all deciders", "trees alone"])
-@pytest.mark.parametrize("mirrored", [False, True])
-def test_renamed_machines_have_the_same_verdicts(
-    bb: str, machines: Words, mirrored: bool, plan: Words
+@pytest.mark.parametrize("mirrored, names", [(True, (0, 1, 2)), (False, (0, 2, 1)), (True, (0, 2, 1))])
+def test_mirrored_and_renamed_machines_have_the_same_verdicts(
+    bb: str, machines: Words, mirrored: bool, names: Sequence[int], plan: Words
 ) -> None:
     padded = ["_".join(group + "---" for group in text.split("_")) + "_---------" for text in machines]
-    compare_changed(bb, padded, [Change(mirrored, (0, 2, 1), (0, 2, 1))] * len(machines), plan)
+    compare_changed(bb, padded, [Change(mirrored, names, names)] * len(machines), plan)
 
 
 @pytest.mark.parametrize("count", [1_500, pytest.param(12_000, marks=pytest.mark.slow)])
@@ -95,14 +90,6 @@ def completions(text: str) -> Iterator[tuple[str, tuple[int, ...]]]:
             yield join_groups(new, 2), filled
 
 
-def find_undefined(text: str, verdict: str) -> int | None:
-    """Return the `---` on which a machine halts, as state and symbol in one number; None where it doesn't."""
-    if not verdict.startswith("halt "):
-        return None
-    *_, last = simulate(text, int(verdict.split(" ")[1]))
-    return None if last.state is None else 2 * last.state + last.tape.get(last.head, 0)
-
-
 @pytest.mark.parametrize("fills_met", [False, True])
 def test_completions_keep_halts_and_pairs(bb: str, machines: list[str], fills_met: bool) -> None:
     """A filled `---` that the run doesn't meet keeps the verdict; the one that it halts on changes it."""
@@ -111,7 +98,7 @@ def test_completions_keep_halts_and_pairs(bb: str, machines: list[str], fills_me
         for text, verdict in zip(machines, decide(bb, machines))
         if verdict.split(" ")[0] in ("halt", "cycler", "translated")
         for other, filled in completions(text)
-        if (find_undefined(text, verdict) in filled) == fills_met
+        if (verdict.startswith("halt ") and find_undefined(text, LONGEST) in filled) == fills_met
     ]
     verdicts, others = [verdict for verdict, _ in cases], [other for _, other in cases]
     found = decide(bb, others)
@@ -133,31 +120,6 @@ def test_no_completion_halts_where_a_tree_ends(bb: str, machines: list[str]) -> 
     assert not [now for now in decide(bb, others) if now.startswith("halt ")]
     assert [verdict for verdict, _ in cases] != decide(bb, others, TREES_ALONE)
     print("%d completions by a tree" % len(cases))
-
-
-def predict(verdict: str, first_places: Sequence[tuple[int | None, int]]) -> list[tuple[int | None, int]]:
-    """Predict the state and the head's position at each step from a pair, by those up to its second step."""
-    kind, *rest = verdict.split(" ")
-    moved = kind == "translated"
-    first, second = map(int, rest[1:3] if moved else rest)
-    shift = int(rest[3]) * (1 if rest[0] == "R" else -1) if moved else 0
-    places = []
-    for step in range(FOLLOWED + 1):
-        times, part = divmod(max(step - first, 0), second - first)
-        state, head = first_places[min(step, first) + part]
-        places.append((state, head + times * shift))
-    return places
-
-
-def test_pairs_predict_later_steps(bb: str, machines: list[str]) -> None:
-    count = 0
-    for text, verdict in zip(machines, decide(bb, machines)):
-        if verdict.startswith(("cycler ", "translated ")):
-            places = [(now.state, now.head) for now in simulate(text, FOLLOWED)]
-            assert predict(verdict, places) == places, (text, verdict)
-            count += 1
-    assert count
-    print("%d machines, %d steps each" % (count, FOLLOWED))
 
 
 def latest_halt(text: str, levels: int) -> int:

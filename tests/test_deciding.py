@@ -2,7 +2,6 @@
 
 import pathlib
 import random
-import re
 import subprocess
 
 import pytest
@@ -38,35 +37,21 @@ def test_verdicts_are_confirmed_and_larger_limits_keep(bb: str, rng: random.Rand
     assert any(kind_of(line) != "undecided" for lines in runs for line in lines)
 
 
-def test_examples_of_the_limits_are_the_programs(bb: str) -> None:
-    """Each command on the page prints the line below it."""
-    page = (TOP / "docs" / "limits.md").read_text(encoding="utf-8")
-    examples = re.findall(r"^    \$ echo (\S+) \| \./bb (.*)\n    (.+)$", page, flags=re.M)
-    assert len(examples) == page.count("    $ ")
-    for text, words, line in examples:
-        assert run_command([bb, *words.split(" ")], as_lines([text])).output == as_lines([line]), text
-
-
-@pytest.fixture(scope="session")
-def peer(tmp_path_factory: pytest.TempPathFactory) -> str:
-    """The plain Rust program that simulates, then searches, each by itself."""
+@pytest.fixture(scope="session", params=["peer wide", "limit narrow", "limit flat"])
+def other(request: pytest.FixtureRequest, tmp_path_factory: pytest.TempPathFactory) -> str:
+    """A plain Rust program that simulates, then searches, or one for speed alone, with either of its tapes."""
     require("rustc")
-    return build_peer(tmp_path_factory.mktemp("peer"), "peer", "--cfg", "wide")
-
-
-@pytest.fixture(scope="session", params=["narrow", "flat"])
-def limit(request: pytest.FixtureRequest, tmp_path_factory: pytest.TempPathFactory) -> str:
-    """The plain Rust program for speed alone; with `flat` its runs leave the tape of one word at once."""
-    require("rustc")
-    if "avx2" not in (facts := CPU_FACTS.read_text(encoding="utf-8")) or "bmi2" not in facts:
+    name, choice = request.param.split()
+    facts = CPU_FACTS.read_text(encoding="utf-8")
+    if name == "limit" and ("avx2" not in facts or "bmi2" not in facts):
         pytest.skip("this processor has no AVX2 or BMI2")
-    return build_peer(tmp_path_factory.mktemp("limit"), "limit", "--cfg", request.param)
+    return build_peer(tmp_path_factory.mktemp(name), name, "--cfg", choice)
 
 
 def draw_machine(source: random.Random) -> str:
     """Draw a machine: half of them have 2 symbols, seven of ten at most 5 states."""
-    states = source.randint(1, 5) if source.random() < 0.7 else source.randint(1, 25)
-    return machine(source, states, 2 if source.random() < 0.5 else source.randint(2, 10))
+    states = source.randint(1, 5 if source.random() < 0.7 else 25)
+    return machine(source, states, source.choice([2, source.randint(2, 10)]))
 
 
 def draw_small_line(source: random.Random) -> str:
@@ -87,44 +72,31 @@ def draw_options(source: random.Random) -> list[str]:
     return [word for limit in options((steps, cells, depth, nodes)) for word in limit.split("=")] + off
 
 
-def decide_alike(bb: str, other: str, given: bytes, words: list[str], *ways: str) -> list[str]:
-    """Require another program to write the same, also where it is told another way to decide; return the lines."""
+def decide_alike(bb: str, other: str, given: bytes, words: list[str]) -> list[str]:
+    """Require another program to write the same, `peer` also in a single pass; return the lines."""
     ours = run_command([bb, "decide", *words], given)
-    for more in ([], ways) if ways else ([],):
+    for more in ([], WEAK) if other.endswith("peer") else ([],):
         assert ours[:2] == run_command([other, "decide", *words, *more], given)[:2], words
     return ours.output.decode().splitlines()
 
 
 @pytest.mark.parametrize("count", [2_000, pytest.param(100_000, marks=pytest.mark.slow)])
-def test_plain_program_writes_the_same_bytes(bb: str, peer: str, rng: random.Random, count: int) -> None:
-    kinds: set[str] = set()
+def test_plain_programs_write_the_same_bytes(bb: str, other: str, rng: random.Random, count: int) -> None:
+    """That for speed also of lines that are no machines, one of them long, and without a newline at the end."""
+    is_small, kinds = other.endswith("limit"), set[str]()
     for _ in range(count // BATCH):
-        given = as_lines(draw_machine(rng) for _ in range(BATCH))
-        lines = decide_alike(bb, peer, given, draw_options(rng), *WEAK)
-        assert len(lines) == BATCH
+        given = as_lines((draw_small_line if is_small else draw_machine)(rng) for _ in range(BATCH))
+        if is_small:
+            given += b"1RA1RA" + b"x" * 150_000 + b"\n" + machine(rng, 2, 2).encode()
+        lines = decide_alike(bb, other, given, draw_options(rng))
+        assert len(lines) == BATCH + 2 * is_small
         kinds.update(map(kind_of, lines))
-    assert KINDS <= kinds
+    assert kinds == KINDS | ({"refused"} if is_small else set())
     print("%d lines compared" % count)
 
 
-@pytest.mark.parametrize("count", [2_000, pytest.param(100_000, marks=pytest.mark.slow)])
-def test_plain_program_for_speed_writes_the_same_bytes(
-    bb: str, limit: str, rng: random.Random, count: int
-) -> None:
-    """Also of lines that are no machines, one of them long, and without a newline at the end."""
-    kinds: set[str] = set()
-    for _ in range(count // BATCH):
-        small = [draw_small_line(rng) for _ in range(BATCH - 1)]
-        given = as_lines([*small, "1RA1RA" + "x" * 150_000]) + machine(rng, 2, 2).encode()
-        lines = decide_alike(bb, limit, given, draw_options(rng))
-        assert len(lines) == BATCH + 1
-        kinds.update(map(kind_of, lines))
-    assert KINDS < kinds
-    print("%d lines compared" % count)
-
-
-def test_plain_program_makes_the_same_long_runs(
-    bb: str, peer: str, four_states: list[str], rng: random.Random
+def test_plain_programs_make_the_same_long_runs(
+    bb: str, other: str, four_states: list[str], rng: random.Random
 ) -> None:
     """On tapes of more than 64 cells, of machines of four states that few steps don't decide."""
     few = replies([bb, "decide", "--steps", "300", "--cells", "300", "--depth", "20"], four_states)
@@ -133,7 +105,7 @@ def test_plain_program_makes_the_same_long_runs(
         steps, cells = rng.randint(300, 30_000), rng.choice([65, 127, 200, rng.randint(100, 3_000)])
         words = ["--steps", str(steps), "--cells", str(cells), "--depth", "10"]
         words += [switch for switch in SIMULATION if rng.random() < 0.3]
-        decide_alike(bb, peer, as_lines(machines), words, *WEAK)
+        decide_alike(bb, other, as_lines(machines), words)
     print("%d lines compared" % (20 * len(machines)))
 
 

@@ -137,11 +137,10 @@ class Line:
         for names, owners in OF.findall(text):
             pairs = [(name, owner) for name in backquoted(names) for owner in backquoted(owners)]
             yield from ("`%s` of `%s`" % pair for pair in pairs if not self.is_of(*pair))
-        for found in IN.finditer(text):
-            texts = "".join(sources()[path] for path in self.files(found[2]))
-            named = [name for name in backquoted(found[1]) if texts and re.fullmatch(NAME, name)]
-            lost = [name for name in named if name.split("::")[-1] not in texts]
-            yield from ("`%s` in %s" % (name, found[2]) for name in lost)
+        for names, file in IN.findall(text):
+            texts = "".join(sources()[path] for path in self.files(file)) or names
+            named = [name for name in backquoted(names) if re.fullmatch(NAME, name)]
+            yield from ("`%s` in %s" % (name, file) for name in named if name.split("::")[-1] not in texts)
 
     def in_link(self, link: str) -> Iterator[str]:
         path, _, heading = link.partition("#")
@@ -250,11 +249,6 @@ def test_manual_page_of_the_package_is_made(tmp_path: pathlib.Path) -> None:
     """Paragraphs are filled, and other lines fit beside the page's indent."""
     page = tmp_path / "budlarem.1"
     subprocess.run(["make", "-s", "-C", str(TOP), "manual", "manual_page=%s" % page], check=True)
-    text = page.read_text(encoding="utf-8")
-    assert ".br" not in text
-    kept = [
-        line.replace("\\", "")
-        for block in re.findall(r"\.nf\n(.*?)\.fi", text, re.S)
-        for line in block.split("\n")
-    ]
-    assert len(kept) > 99 and max(map(len, kept)) <= 72
+    text = page.read_text(encoding="utf-8").replace("\\", "")
+    kept = "".join(re.findall(r"\.nf\n(.*?)\.fi", text, re.S)).split("\n")
+    assert ".br" not in text and len(kept) > 99 and max(map(len, kept)) <= 72

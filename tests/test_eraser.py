@@ -7,8 +7,7 @@ import sys
 
 import pytest
 from support import TOP, require
-from support.examples import read_examples
-from support.program import run_command
+from support.examples import require_examples
 
 sys.path.insert(0, str(TOP))
 from plain.erase import Source, plain as erase, write_workspace  # noqa: E402
@@ -92,7 +91,4 @@ def test_code_for_other_systems_than_unix(tmp_path: pathlib.Path) -> None:
         assert not re.search(r"cfg\w*\(.*\bunix\b", text), path
         path.write_text(text, encoding="utf-8")
     subprocess.run("cargo build --quiet -p bb -p cover -p recurrence".split(), cwd=tmp_path, check=True)
-    bb = str(tmp_path / "target" / "debug" / "bb")
-    for example in read_examples():
-        found = run_command([bb, *example.words], example.given, cwd=str(TOP))
-        assert (found.output, found.status) == (example.expected, example.status), example.name
+    require_examples(str(tmp_path / "target" / "debug" / "bb"))

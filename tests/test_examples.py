@@ -5,25 +5,17 @@ import subprocess
 
 import pytest
 from support import TOP
-from support.examples import Example, read_examples
-from support.program import run_command
+from support.examples import require_examples
 
-EXAMPLES = list(read_examples())
 # Of each line a sha256, and the commands whose output has it.
 PIPELINES = [line.split("  ", 1) for line in (TOP / "examples/three_states/sha256").read_text().splitlines()]
 
 
 @pytest.mark.parametrize("build", ["bb", "plain"])
-@pytest.mark.parametrize("example", EXAMPLES, ids=[example.name for example in EXAMPLES])
-def test_example_writes_its_expected_output(
-    request: pytest.FixtureRequest, build: str, example: Example
-) -> None:
+def test_examples_write_their_expected_output(request: pytest.FixtureRequest, build: str) -> None:
     """By the program, and by the one that cargo builds."""
     built = request.getfixturevalue(build)
-    program = str(built / "bb") if build == "plain" else built
-    found = run_command([program, *example.words], example.given, cwd=str(TOP))
-    assert found.output.splitlines() == example.expected.splitlines()
-    assert (found.output, found.status) == (example.expected, example.status)
+    require_examples(str(built / "bb") if build == "plain" else built)
 
 
 @pytest.mark.usefixtures("bb", "list_machines")

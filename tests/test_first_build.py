@@ -25,15 +25,12 @@ fn main(rt: HostRuntime) -> ExitCode {
 # The programs are small, and needn't be fast.
 QUICK = {"CARGO_PROFILE_RELEASE_LTO": "off", "CARGO_PROFILE_RELEASE_OPT_LEVEL": "0"}
 # Targets that need the kit, each with the command that the sentence names.
-TARGETS = {
-    "bb": "`make plain`",
-    "cover": "`make plain`",
-    "recurrence": "`make plain`",
-    "library": "`make plain-library`",
-    "web": "",
-    "npm": "",
-}
+TARGETS = dict.fromkeys(("bb", "cover", "recurrence"), "`make plain`")
+TARGETS.update({"library": "`make plain-library`", "web": "", "npm": ""})
+# A script in the place of cargo and rustc, and words of the sentence.
 OLD = 'case ${0##*/} in cargo) echo "cargo 1.65.0";; *) echo "rustc 1.63.0";; esac'
+TOOLS = {OLD: ["cargo 1.65.0 is too old", "1.88", "rustc-web", "cargo-web"]}
+TOOLS["echo 'no default is configured' >&2; exit 1"] = ["`cargo --version` prints no version", "rustup"]
 pytestmark = pytest.mark.needs("cargo", "rustc", "make", "cc")
 
 
@@ -49,12 +46,6 @@ def repository(tmp_path: pathlib.Path) -> Repository:
     for name in ("bb_machine", "bb_c"):
         made.write("crates/%s/src/lib.rt" % name, "//! Nothing.\n")
     return made
-
-
-def replace_tools(repository: Repository, script: str) -> None:
-    """Let a script take the place of cargo and rustc."""
-    for name in ("cargo", "rustc"):
-        repository.add_program(name, script)
 
 
 def require_sentence(done: Done, *words: str, status: int = 3) -> None:
@@ -121,14 +112,11 @@ def test_no_cargo(repository: Repository) -> None:
     require_sentence(repository.run("./bb"), "cargo isn't installed", "rustc-web", "cargo-web", "rustup")
 
 
-def test_old_cargo(repository: Repository) -> None:
-    replace_tools(repository, OLD)
-    require_sentence(repository.run("./cover"), "cargo 1.65.0 is too old", "1.88", "rustc-web", "cargo-web")
-
-
-def test_cargo_without_a_toolchain(repository: Repository) -> None:
-    replace_tools(repository, "echo 'no default is configured' >&2; exit 1")
-    require_sentence(repository.run("./bb"), "`cargo --version` prints no version", "rustup")
+@pytest.mark.parametrize("script, words", TOOLS.items())
+def test_cargo_that_cannot_build(repository: Repository, script: str, words: list[str]) -> None:
+    for name in ("cargo", "rustc"):
+        repository.add_program(name, script)
+    require_sentence(repository.run("./cover"), *words)
 
 
 @pytest.mark.parametrize("present", [[], ["clap-4.0.32"], ["arrayvec-0.7.2", "clap-4.0.32", "itoa-1.0.1"]])
@@ -139,9 +127,7 @@ def test_no_registry(repository: Repository, tmp_path: pathlib.Path, present: li
     repository.replace("plain/erase.py", "/usr/share/cargo/registry", str(tmp_path / "debian"))
     offline = {"CARGO_HOME": str(tmp_path / "home"), "CARGO_HTTP_PROXY": "http://127.0.0.1:9"}
     done = repository.run("./bb decide", **offline)
-    absent = [
-        name for name in ("arrayvec", "clap", "itoa", "memchr") if not any(name in one for one in present)
-    ]
+    absent = {"arrayvec", "clap", "itoa", "memchr"} - {name.partition("-")[0] for name in present}
     require_sentence(done, "can't download", *("librust-%s-dev" % name for name in absent))
     assert done.stderr.count("librust-") == len(absent)
 

@@ -41,16 +41,10 @@ def parameters(header: str) -> list[str]:
 
 
 def exchange(one: str, two: str) -> str:
-    """Exchange two parameters of `bb_trace`'s declaration in the header, or the numbers of two counts."""
-    begin, end = 0, len(HEADER)
-    if one not in KINDS:
-        begin = HEADER.index("uint32_t bb_trace(")
-        end = HEADER.index(")", begin)
+    """Exchange two parameters wherever the header declares them, or the numbers of two counts."""
     names = {one: two, two: one}
-    before = "(?<=#define )" if one in KINDS else r"\b"
-    pattern = r"%s(%s|%s)\b" % (before, one, two)
-    inside = re.sub(pattern, lambda found: names[str(found[1])], HEADER[begin:end])
-    return HEADER[:begin] + inside + HEADER[end:]
+    form = r"(?<=#define )(%s|%s)\b" if one in KINDS else r"\b(%s|%s)(?=[,)])"
+    return re.sub(form % (one, two), lambda found: names[found[1]], HEADER)
 
 
 def run_with(header: str, library: pathlib.Path, folder: pathlib.Path) -> CommandResult:

@@ -93,16 +93,17 @@ def test_a_program_finds_the_library_that_it_loads(library: pathlib.Path, tmp_pa
 
 
 @pytest.mark.parametrize(
-    "source, words",
-    [("examples/c/decide.c", C), ("examples/c/decide.c", VALGRIND), ("examples/rust/decide.rs", ["rustc"])],
-    ids=["C", "C under valgrind", "Rust"],
+    "source, compiler",
+    [("examples/c/decide.c", C), ("examples/rust/decide.rs", ["rustc"])],
+    ids=["C", "Rust"],
 )
-def test_examples_decide_words(bb: str, compile_source: Compile, source: str, words: list[str]) -> None:
-    under = words if words == VALGRIND else []
-    require(*under[:1])
-    command = [*under, compile_source(source, C if under else words)]
-    assert run_command([*command, *MACHINES])[:2] == run_command([bb, "decide"], as_lines(MACHINES))[:2]
-    assert run_command([*command, "1RZ---"]) == (0, b"1RZ--- halt 1 1\n", b"")
+def test_examples_decide_words(bb: str, compile_source: Compile, source: str, compiler: list[str]) -> None:
+    """Also under valgrind."""
+    require("valgrind")
+    made, decided = compile_source(source, compiler), run_command([bb, "decide"], as_lines(MACHINES))
+    for command in ([made], [*VALGRIND, made]):
+        assert run_command([*command, *MACHINES])[:2] == decided[:2]
+        assert run_command([*command, "1RZ---"]) == (0, b"1RZ--- halt 1 1\n", b"")
 
 
 def test_example_decides_all_machines_of_two_states(bb: str, compile_source: Compile) -> None:

@@ -2,14 +2,13 @@
 
 import functools
 import random
-import re
 from typing import Callable, NamedTuple
 
 import pytest
 from support import ListMachines
 from support.program import LIST_LIMITS, LIST_STEPS, CommandResult, Decide, as_lines, replies, run_command
-from support.shards import greatest_halt, shard_line, summarize_bound
-from test_cover import Change, Changed, double, leave_out, require_refused, swap
+from support.shards import shard_line, summarize_bound
+from test_cover import require_refused
 
 
 class Sharded(NamedTuple):
@@ -66,19 +65,6 @@ def test_skeleton_counts_as_the_list_in_one_piece(
     assert count and sum(map(len, made.shards.values())) < len(made.lines)
 
 
-def test_shards_are_stretches_of_the_list(shard: Shard) -> None:
-    made = shard(3, 2, 2)
-    for machine, lines in made.shards.items():
-        start = next(at for at, line in enumerate(made.lines) if line.startswith(machine + " "))
-        assert made.lines[start : start + len(lines)] == lines
-
-
-def test_greatest_halt_is_that_of_the_skeleton_or_of_a_shard(shard: Shard) -> None:
-    made = shard(3, 2, 2)
-    halts = [greatest_halt(lines) for lines in (made.skeleton, *made.shards.values())]
-    assert tuple(map(max, zip(*halts))) == greatest_halt(made.lines) > (0, 0)
-
-
 def test_each_shard_is_a_walk_below_its_machine(cover: str, shard: Shard) -> None:
     made = shard(3, 2, 2)
     stated = {line.split(" ")[0]: line.split(" ") for line in made.skeleton if " below " in line}
@@ -103,54 +89,6 @@ def test_skeleton_below_a_machine(cover: str, list_machines: ListMachines, shard
         assert sharded.endswith(summarize_bound(skeleton, where="outside shards ") + "\n")
 
 
-def resize(lines: list[str], at: int, _: random.Random) -> Changed:
-    """Give the machine one state more; the first line gives the size, so the next one is wrong there."""
-    machine, rest = lines[at].split(" ", 1)
-    return [*lines[:at], machine + "_------ " + rest, *lines[at + 1 :]], max(at + 1, 2)
-
-
-@pytest.mark.parametrize("change", [leave_out, double, swap, resize])
-def test_changed_skeletons_are_refused_at_their_line(
-    cover: str, shard: Shard, rng: random.Random, change: Change
-) -> None:
-    lines = shard(3, 2, 2).skeleton
-    for at in range(len(lines)):
-        require_refused([cover, "--skeleton"], change(lines, at, rng))
-
-
-def test_cut_and_misspelt_shards_are_no_lines(cover: str, shard: Shard) -> None:
-    lines = shard(3, 2, 2).skeleton
-    at = next(at for at, line in enumerate(lines) if " below " in line)
-    spelt = lines[at]
-    wrong = [spelt[:-1], spelt + "0", spelt + " ", spelt.upper(), spelt.replace("below", "beneath")]
-    wrong += [spelt.replace(" below ", " below  "), re.sub(r" below (\d+) (\d+)", r" below \1", spelt)]
-    wrong += [re.sub(r" below (\d+)", number, spelt) for number in (r" below 0\1", r" below +\1")]
-    wrong.append(re.sub(r" below (\d+)", " below 18446744073709551616", spelt))
-    for line in wrong:
-        done = run_command(
-            [cover, "--skeleton", *LIST_LIMITS], as_lines([*lines[:at], line, *lines[at + 1 :]])
-        )
-        assert done == (1, b"line %d: it is no verdict line and no shard\n" % (at + 1), b""), line
-
-
-def test_shards_are_refused_in_lists_of_verdicts(cover: str, shard: Shard) -> None:
-    lines = shard(3, 2, 2).skeleton
-    at = next(at for at, line in enumerate(lines) if " below " in line)
-    error = b"line %d: it is no verdict line\n" % (at + 1)
-    assert run_command([cover, *LIST_LIMITS], as_lines(lines)) == (1, error, b"")
-
-
-@pytest.mark.parametrize("count", [100, pytest.param(1_000, marks=pytest.mark.slow)])
-def test_a_shard_without_one_of_its_lines_is_refused(
-    cover: str, shard: Shard, rng: random.Random, count: int
-) -> None:
-    made = shard(4, 2, 4) if count > 100 else shard(3, 2, 2)
-    machines = [machine for machine, lines in made.shards.items() for _ in lines]
-    for machine in rng.choices(machines, k=count):
-        lines = made.shards[machine]
-        require_refused([cover, "--below", machine], leave_out(lines, rng.randrange(len(lines)), rng))
-
-
 @pytest.mark.slow
 def test_shards_of_five_states_without_one_of_their_lines(
     bb: str, cover: str, list_machines: ListMachines, rng: random.Random
@@ -162,7 +100,7 @@ def test_shards_of_five_states_without_one_of_their_lines(
         machines = list_machines(5, "--steps", str(LIST_STEPS), "--below", machine)
         lines = replies([bb, "decide", *LIST_LIMITS], machines)
         assert run_command([cover, "--below", machine, *LIST_LIMITS], as_lines(lines)).status == 0
-        require_refused([cover, "--below", machine], leave_out(lines, rng.randrange(len(lines)), rng))
+        require_refused([cover, "--below", machine], lines, rng.randrange(len(lines)))
 
 
 def test_shard_of_another_machine_is_refused(cover: str, shard: Shard) -> None:
@@ -171,10 +109,3 @@ def test_shard_of_another_machine_is_refused(cover: str, shard: Shard) -> None:
     assert done == (1, b"line 1: %s expected, found %s\n" % (one.encode(), two.encode()), b"")
     nothing = run_command([cover, "--below", one, *LIST_LIMITS])
     assert nothing == (1, b"line 1: %s expected, the list ends\n" % one.encode(), b"")
-
-
-@pytest.mark.parametrize("text", ["1RB", "", "1RB1LB_1LA1RC", "1RB---_------ ", "x"])
-def test_text_that_is_no_machine(bb: str, cover: str, text: str) -> None:
-    column = run_command([bb, "decide"], as_lines([text])).output.decode().split(" ")[1]
-    error = "cover: the text of --below is no machine: refused at column " + column
-    assert run_command([cover, "--below", text]) == (2, b"", error.encode())

@@ -4,11 +4,10 @@ import os
 import pathlib
 import subprocess
 import tarfile
-from typing import Callable, Dict, List
 
 import pytest
-from support import TOP, require
-from support.examples import read_examples
+from support import TOP, ListMachines, require
+from support.examples import require_examples
 from support.program import as_lines, run_command
 
 DOCUMENTS = {"README.md", "plain.md", "bb.1", "bb.h", "Cargo.lock"}
@@ -18,7 +17,7 @@ pytestmark = pytest.mark.slow
 
 
 @pytest.fixture(scope="module")
-def archives(plain: pathlib.Path, tmp_path_factory: pytest.TempPathFactory) -> List[pathlib.Path]:
+def archives(plain: pathlib.Path, tmp_path_factory: pytest.TempPathFactory) -> list[pathlib.Path]:
     """The archive, made twice."""
     assert plain.exists()
     require("git", "cc")
@@ -29,7 +28,7 @@ def archives(plain: pathlib.Path, tmp_path_factory: pytest.TempPathFactory) -> L
 
 
 @pytest.fixture(scope="module")
-def workspace(archives: List[pathlib.Path], tmp_path_factory: pytest.TempPathFactory) -> pathlib.Path:
+def workspace(archives: list[pathlib.Path], tmp_path_factory: pytest.TempPathFactory) -> pathlib.Path:
     """The folder that the archive holds."""
     top = tmp_path_factory.mktemp("unpacked")
     with tarfile.open(archives[0]) as archive:
@@ -39,7 +38,7 @@ def workspace(archives: List[pathlib.Path], tmp_path_factory: pytest.TempPathFac
 
 
 @pytest.fixture(scope="module")
-def bare() -> Dict[str, str]:
+def bare() -> dict[str, str]:
     """An environment without a home and a network; Debian's cargo is used, or else the one of `rustc`."""
     bare_path = "/usr/bin:/bin"
     if not os.access("/usr/bin/cargo", os.X_OK):
@@ -49,14 +48,14 @@ def bare() -> Dict[str, str]:
 
 
 @pytest.fixture(scope="module")
-def built(workspace: pathlib.Path, bare: Dict[str, str]) -> pathlib.Path:
+def built(workspace: pathlib.Path, bare: dict[str, str]) -> pathlib.Path:
     """The folder of the programs that are built there, by the command of its README."""
     assert "`cargo build --release`" in (workspace / "README.md").read_text()
     subprocess.run(["cargo", "build", "--release", "--quiet"], cwd=workspace, env=bare, check=True)
     return workspace / "target" / "release"
 
 
-def test_two_archives_have_the_same_bytes(archives: List[pathlib.Path]) -> None:
+def test_two_archives_have_the_same_bytes(archives: list[pathlib.Path]) -> None:
     one, another = archives
     assert one.name == another.name and one.read_bytes() == another.read_bytes()
 
@@ -69,10 +68,8 @@ def test_dependencies_have_licences(workspace: pathlib.Path) -> None:
     assert without == []
 
 
-def test_programs(built: pathlib.Path, list_machines: Callable[..., List[str]]) -> None:
-    for example in read_examples():
-        found = run_command([str(built / "bb"), *example.words], example.given, cwd=str(TOP))
-        assert (found.output, found.status) == (example.expected, example.status), example.name
+def test_programs(built: pathlib.Path, list_machines: ListMachines) -> None:
+    require_examples(str(built / "bb"))
     assert run_command([str(built / "bb"), "--version"]).output.endswith(b" (plain)\n")
     decided = run_command([str(built / "bb"), "decide"], as_lines(list_machines(3)))
     covered = run_command([str(built / "cover")], decided.output)
@@ -87,7 +84,7 @@ def test_library(built: pathlib.Path, workspace: pathlib.Path, tmp_path: pathlib
 
 
 @pytest.mark.usefixtures("built")
-def test_tests_of_the_crates(workspace: pathlib.Path, bare: Dict[str, str]) -> None:
+def test_tests_of_the_crates(workspace: pathlib.Path, bare: dict[str, str]) -> None:
     command = ["cargo", "test", "--quiet"]
     done = subprocess.run(command, cwd=workspace, env=bare, capture_output=True, text=True)
     assert done.returncode == 0, done.stdout + done.stderr

@@ -17,7 +17,7 @@ import pytest
 from support import TOP, ListMachines, require
 from support.machines import LETTERS, join_groups
 from support.program import as_lines, run_command
-from support.simulation import simulate
+from support.simulation import find_undefined
 
 COUNTS = {1: 3, 2: 61, 3: 5_417, 4: 858_909}
 FIVE_STATES = 181_385_789
@@ -44,19 +44,11 @@ REFUSED = {
 }
 
 
-def find_undefined(entries: list[str], symbols: int, steps: int) -> int | None:
-    """Return the place of the undefined entry that a machine meets within so many steps, if any."""
-    for now in simulate(join_groups(entries, symbols), steps):
-        place = (now.state or 0) * symbols + now.tape.get(now.head, 0)
-        if entries[place] == "---":
-            return place
-    return None
-
-
 def machines_by_definition(entries: list[str], symbols: int, steps: int) -> Iterator[str]:
     """Yield a machine and those that it leads to, by the rules alone: each is run from its first step on."""
-    yield join_groups(entries, symbols)
-    met = find_undefined(entries, symbols, steps)
+    text = join_groups(entries, symbols)
+    yield text
+    met = find_undefined(text, steps)
     defined = [entry for entry in entries if entry != "---"]
     if met is None or len(defined) == len(entries) - 1:
         return

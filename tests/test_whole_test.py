@@ -1,13 +1,12 @@
 """`./test` itself, over a few tests: it names the failed ones, and prints a line for each reason of skipped ones."""
 
-import os
 import pathlib
 import re
 import shutil
-import subprocess
 
 import pytest
 from support import TOP
+from support.repository import Repository
 
 FILES = "test conftest.py pyproject.toml .ci/packages.txt plain/erase.py tools/build_info.py include/bb.h"
 TESTS = """import pytest
@@ -45,14 +44,11 @@ SKIPPED = [
 
 @pytest.mark.needs("make", modules=("xdist",))
 def test_failed_and_skipped_tests_are_named(tmp_path: pathlib.Path) -> None:
-    for name in FILES.split():
-        (tmp_path / name).parent.mkdir(parents=True, exist_ok=True)
-        shutil.copy(TOP / name, tmp_path / name)
-    shutil.copytree(TOP / "tests" / "support", tmp_path / "tests" / "support")
-    (tmp_path / "tests" / "test_some.py").write_text(TESTS)
-    (tmp_path / "Makefile").write_text("plain:\n")
-    environment = {**os.environ, "PATH": "/usr/bin:/bin"}
-    done = subprocess.run(["./test"], cwd=tmp_path, env=environment, capture_output=True, text=True)
+    made = Repository(tmp_path, FILES)
+    shutil.copytree(TOP / "tests" / "support", made.top / "tests" / "support")
+    made.write("tests/test_some.py", TESTS)
+    made.write("Makefile", "plain:\n")
+    done = made.run("./test", PATH="/usr/bin:/bin")
     lines = done.stdout.splitlines()
     assert sorted(line for line in lines if line.startswith("skipped")) == SKIPPED
     named = [re.findall("(?:FAILED|ERROR) [a-z_./]*::([^ ]*)", line) for line in lines]

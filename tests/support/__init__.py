@@ -4,6 +4,7 @@ import fcntl
 import functools
 import importlib.util
 import pathlib
+import re
 import shutil
 import signal
 import subprocess
@@ -64,6 +65,17 @@ def list_files(*words: str) -> list[str]:
     """List the rows of `git ls-files` by these words whose files exist, from the top."""
     rows = subprocess.check_output(["git", "ls-files", *words], cwd=TOP, text=True).splitlines()
     return [row for row in rows if (TOP / row.split("\t")[-1]).is_file()]
+
+
+def read_blocks(page: str) -> dict[str, list[str]]:
+    """Read the indented blocks of a document, by the heading above them."""
+    found: dict[str, list[str]] = {}
+    for section in re.split(r"^#+ ", (TOP / page).read_text(encoding="utf-8"), flags=re.M)[1:]:
+        heading, _, text = section.partition("\n")
+        blocks = re.findall(r"(?:^    .*\n(?:\n(?=    ))?)+", text, flags=re.M)
+        if blocks:
+            found[heading] = [re.sub("^    ", "", block, flags=re.M).rstrip("\n") for block in blocks]
+    return found
 
 
 def restore_signals() -> None:

@@ -9,7 +9,7 @@ import pathlib
 from typing import Any, Iterator
 
 from . import TOP
-from .program import plan_of
+from .program import plan_of, run_command
 
 # The first list of the README.
 README = b"1RB1LB_1LA1RZ\n1RA1RA\n1rB1LB\n"
@@ -49,3 +49,11 @@ def read_examples(*commands: str) -> Iterator[Example]:
         if not commands or words[0] in commands:
             given, expected = content(folder / "lines.txt"), (folder / "expected.txt").read_bytes()
             yield Example(folder.name, words, given, expected, int(content(folder / "status", b"0")))
+
+
+def require_examples(bb: str) -> None:
+    """Require a program to write each example's output, and to end with its status."""
+    for example in read_examples():
+        status, output, _ = run_command([bb, *example.words], example.given, cwd=str(TOP))
+        assert output.splitlines() == example.expected.splitlines(), example.name
+        assert (output, status) == (example.expected, example.status), example.name

@@ -6,8 +6,7 @@ import pathlib
 import subprocess
 from typing import Any, NamedTuple
 
-from . import TOP
-from .pages import read_blocks
+from . import TOP, read_blocks
 from .program import run_command, words_of_plan
 
 MODULE = TOP / "web" / "out" / "bb.wasm"

@@ -146,16 +146,6 @@ def small_disk(folder: pathlib.Path, kilobytes: int) -> Iterator[None]:
         subprocess.run(["umount", str(folder)], check=True)
 
 
-def kill_after(case: Case, more: int, *words: str) -> bool:
-    """Runs until so many more chunks stand, and kills it; whether that was before its end."""
-    config, before = case.out / "run.json", case.chunks()
-    with case.start(str(case.list), *words) as process:
-        was_seen = wait_until(process, lambda: config.exists() and case.chunks() >= before + more)
-        process.kill()
-        process.wait()
-    return was_seen and process.returncode == -signal.SIGKILL and not (case.out / "verdicts.txt").exists()
-
-
 def require_interrupted(case: Case, process: Process) -> None:
     """SIGINT ends a run soon, with its status and a sentence."""
     began = time.monotonic()
@@ -171,9 +161,13 @@ def require_interrupted(case: Case, process: Process) -> None:
 
 def kill_often(case: Case, count: int, chance: random.Random, *words: str) -> int:
     """Kill runs at random moments, each resumed by the next; return how many were killed before their end."""
-    kills, whole = 0, 0
+    kills, whole, config, verdicts = 0, 0, case.out / "run.json", case.out / "verdicts.txt"
     while kills < count and whole < count + 5:
-        if kill_after(case, chance.randint(0, 4), "--chunk", str(chance.randint(50, 150)), *words):
+        chunks, size = case.chunks() + chance.randint(0, 4), str(chance.randint(50, 150))
+        with case.start(str(case.list), "--chunk", size, *words) as process:
+            was_seen = wait_until(process, lambda: config.exists() and case.chunks() >= chunks)
+            process.kill()
+        if was_seen and process.returncode == -signal.SIGKILL and not verdicts.exists():
             kills += 1
         else:
             whole += 1

@@ -4,7 +4,7 @@ from __future__ import annotations
 
 import hashlib
 import re
-from typing import Collection, Iterable
+from typing import Collection
 
 from .program import as_lines
 
@@ -22,27 +22,10 @@ def shard_line(machine: str, lines: list[str]) -> str:
     return "%s below %d %d %d %s" % (machine, len(lines), len(undecided), wide, digest)
 
 
-def skeleton_of(lines: list[str], items: list[str]) -> list[str]:
-    """Return a list's skeleton, by its machines; those of shards end in `below`."""
-    places = {line.split(" ")[0]: place for place, line in enumerate(lines)}
-    starts = [places[item.split(" ")[0]] for item in items] + [len(lines)]
-    pieces = zip(items, starts, starts[1:])
-    return [
-        shard_line(item.split(" ")[0], lines[start:end]) if item.endswith(" below") else lines[start]
-        for item, start, end in pieces
-    ]
-
-
-def greatest_halt(lines: Iterable[str]) -> tuple[int, int]:
-    """Return the greatest steps and the greatest score of halts, 0 each if none halts."""
-    found = [re.search(r" halt (\d+) (\d+)$", line) for line in lines]
-    halts = [(int(halt[1]), int(halt[2])) for halt in found if halt]
-    return max((steps for steps, _ in halts), default=0), max((score for _, score in halts), default=0)
-
-
 def summarize_bound(lines: Collection[str], assumed: Collection[str] = (), where: str = "") -> str:
     """Return the end of the line, of a list or of the lines of a skeleton, if some machines are assumed."""
-    steps, score = greatest_halt(lines)
+    halts = re.findall(r" halt (\d+) (\d+)$", "\n".join(lines), flags=re.M)
+    steps, score = (max([0, *(int(halt[k]) for halt in halts)]) for k in (0, 1))
     undecided = [line.split(" ")[0] for line in lines if " undecided " in line]
     known = sum(machine in assumed for machine in undecided)
     shards = [line.split(" ") for line in lines if " below " in line]

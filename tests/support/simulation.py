@@ -38,6 +38,16 @@ def simulate(
             low, high = min(low, head), max(high, head)
 
 
+def find_undefined(text: str, steps: int) -> int | None:
+    """Return the place of the undefined entry that a machine meets within so many steps, if any."""
+    table = table_of(text)
+    for now in simulate(text, steps):
+        symbol = now.tape.get(now.head, 0)
+        if now.state is not None and table[now.state][symbol] == "---":
+            return now.state * len(table[0]) + symbol
+    return None
+
+
 def decide_confirmed(bb: str, machines: Words, limits: Words, plan: Words = ()) -> list[str]:
     """Return the verdict lines of machines under limits and a plan; the checker must confirm each."""
     lines = replies([bb, "decide", *limits, *plan], machines)
