@@ -29,7 +29,7 @@ from measuring import NULL, TOP, Cost, Table, has, list_machines, make, parser, 
 from measuring import use_library
 from support import has_kit
 from support.machines import CHAMPION, CHAMPION_STEPS, halting_once, machine, uniform
-from support.node import Engine
+from web.tests.node import Engine
 from support.program import FOUR, MAX_CELLS, SIMULATION, as_lines, build_peer, kind_of, replies, run_command
 from support.program import unaligned_branches, words_of_plan
 
@@ -235,7 +235,11 @@ def measure_limit(bench: Bench, seed: int) -> None:
     for case, units, bar in bars(seed):
         words, is_two = ["decide", *case.options], case.name != THREE_SYMBOLS
         peer = bench.peer if is_two else peer_of_many_symbols
-        commands = [[bench.program, *words], [peer, *words, "--single-pass"], *([[bench.limit, *words]] * is_two)]
+        commands = [
+            [bench.program, *words],
+            [peer, *words, "--single-pass"],
+            *([[bench.limit, *words]] * is_two),
+        ]
         costs = bench.costs(case.lines, commands, True, 2 * bench.table.runs - 1)
         ours, *others = (1e9 * min(cost.processor for cost in row) / units for row in costs)
         bench.table.beside(case.name, ours, [*others, *([None] * (not is_two))], bar)
@@ -281,7 +285,15 @@ def measure_peer(bench: Bench, seed: int) -> None:
         ours, *theirs = (min(row).clock for row in bench.costs(case.lines, commands, True))
         table.times(case.name, ours, theirs)
     decided = cases_in_single_pass(program, random.Random(seed))
-    columns = ["Program", "Peer in a single pass", "Ratio", "Peer in turn", "Ratio", "benchmarks/limit", "Ratio"]
+    columns = [
+        "Program",
+        "Peer in a single pass",
+        "Ratio",
+        "Peer in turn",
+        "Ratio",
+        "benchmarks/limit",
+        "Ratio",
+    ]
     table.head("Deciding beside plain Rust, in processor time", columns)
     for case in decided:
         words = ["decide", *case.options]

@@ -16,7 +16,7 @@ from typing import Callable, Mapping, NamedTuple, Sequence
 TOP = pathlib.Path(__file__).resolve().parents[1]
 SOURCE = TOP / "python" / "src"
 NULL = pathlib.Path(os.devnull)
-sys.path[:0] = [str(TOP / "tests"), str(SOURCE)]
+sys.path[:0] = [str(TOP), str(TOP / "tests"), str(SOURCE)]
 
 from support import missing_requirements  # noqa: E402
 

@@ -24,11 +24,11 @@ from measuring import NULL, TOP, Table, clock, has, list_machines, make, parser,
 
 import budlarem
 from budlarem._library import call_library, validate_replies
-from support.browser import Page
+from web.tests.browser import Page
 from support.examples import README
 from support.machines import CHAMPION, CHAMPION_STEPS
-from support.node import Engine
-from support.page_times import PAUSE, end, traced_views, views
+from web.tests.node import Engine
+from web.tests.page_times import PAUSE, end, traced_views, views
 from support.program import FOUR, MOST, words_of_plan
 from support.runs import WHERE, interrupt
 

@@ -9,7 +9,7 @@ import budlarem
 import pytest
 from support import TOP
 from support.program import place_programs
-from support.runner import SMALL, RunCase
+from python.tests.runner import SMALL, RunCase
 
 # Files there need no disk, so that the tests take no time for it.
 MEMORY = "/dev/shm"

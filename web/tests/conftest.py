@@ -6,8 +6,8 @@ from typing import Any, Iterator
 
 import pytest
 from support import TOP, require
-from support.browser import Page
-from support.node import Engine
+from web.tests.browser import Page
+from web.tests.node import Engine
 
 
 @pytest.fixture(scope="module")

@@ -10,7 +10,7 @@ from support import TOP, ListMachines
 from support.claims import with_other_number
 from support.examples import README, Example, read_examples
 from support.machines import CHAMPION, random_machines, seldom_halting
-from support.node import Engine, documented_script
+from web.tests.node import Engine, documented_script
 from support.program import FOUR, MAX_CELLS, MOST, SWITCHES, CommandResult, all_plans, as_lines
 from support.program import plan_of, processor_time, random_plan, run_command
 from support.recurrences import reply_to_pair

@@ -5,7 +5,7 @@ import subprocess
 
 import pytest
 from support import TOP
-from support.node import documented_script
+from web.tests.node import documented_script
 from support.program import as_lines, run_command
 
 pytestmark = pytest.mark.needs("node", "npm", "tsc")

@@ -11,9 +11,9 @@ from typing import Any
 
 import pytest
 from support import TOP
-from support.browser import Page, soon
+from web.tests.browser import Page, soon
 from support.examples import README
-from support.node import documented_script
+from web.tests.node import documented_script
 from support.program import FOUR, as_lines
 
 

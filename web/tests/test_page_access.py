@@ -6,8 +6,8 @@ import time
 
 import pytest
 from support import TOP
-from support.browser import COLOUR, Page, contrast, soon
-from support.gestures import Keys
+from web.tests.browser import COLOUR, Page, contrast, soon
+from web.tests.gestures import Keys
 from support.machines import CHAMPION, LATE
 from support.program import as_lines
 from support.traces import trace

@@ -3,8 +3,8 @@
 import re
 from typing import NamedTuple
 
-from support.browser import HEAD, Page, soon
-from support.gestures import Keys, cell_at, send_mouse, window_point
+from web.tests.browser import HEAD, Page, soon
+from web.tests.gestures import Keys, cell_at, send_mouse, window_point
 from support.machines import CHAMPION, CHAMPION_OF_FOUR, HALT
 from support.traces import Row, trace
 

@@ -1,8 +1,19 @@
 """Moving and zooming a diagram by mouse and fingers."""
 
 import pytest
-from support.browser import Page, View, soon
-from support.gestures import Keys, Point, cell_at, drag, pinch, place_of, send_mouse, swipe, tap, window_point
+from web.tests.browser import Page, View, soon
+from web.tests.gestures import (
+    Keys,
+    Point,
+    cell_at,
+    drag,
+    pinch,
+    place_of,
+    send_mouse,
+    swipe,
+    tap,
+    window_point,
+)
 from support.machines import CHAMPION
 from support.traces import trace
 

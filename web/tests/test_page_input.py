@@ -5,8 +5,8 @@ import time
 from typing import Callable
 
 from support import TOP
-from support.browser import LONG, Page, soon
-from support.gestures import type_text
+from web.tests.browser import LONG, Page, soon
+from web.tests.gestures import type_text
 from support.machines import CHAMPION, CHAMPION_OF_FOUR
 
 SELECTED = """

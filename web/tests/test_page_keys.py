@@ -1,7 +1,7 @@
 """The page by keyboard alone, and the keys of the tape."""
 
-from support.browser import COLOUR, Page, contrast, soon
-from support.gestures import Keys, press_key, type_text
+from web.tests.browser import COLOUR, Page, contrast, soon
+from web.tests.gestures import Keys, press_key, type_text
 from support.machines import CHAMPION_OF_FOUR
 
 MACHINE = "1LB0LA_1RA---"

@@ -2,8 +2,8 @@
 
 import time
 
-from support.browser import LONG, Page, soon
-from support.gestures import Keys, press_key
+from web.tests.browser import LONG, Page, soon
+from web.tests.gestures import Keys, press_key
 from support.machines import CHAMPION, CHAMPION_OF_FOUR, HALT
 
 STEPS = 50_000_000

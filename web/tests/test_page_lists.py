@@ -14,7 +14,7 @@ from budlarem._text import LONGEST_LINE
 from budlarem.reading import Form, Skipped
 from budlarem.reading.lines import read_line
 from support import TOP
-from support.browser import Page
+from web.tests.browser import Page
 from support.machines import CHAMPION, mixed_machines
 from support.program import as_lines, run_command
 

@@ -7,9 +7,9 @@ import time
 
 import budlarem
 import pytest
-from support.browser import LONG, Page, soon
+from web.tests.browser import LONG, Page, soon
 from support.claims import with_other_number
-from support.gestures import Keys
+from web.tests.gestures import Keys
 from support.machines import CHAMPION, HALT, LATE, SWAPPED, TREE, random_machines
 from support.program import as_lines
 from support.traces import trace

@@ -4,7 +4,7 @@ import re
 import time
 
 import pytest
-from support.browser import ENDLESS, LONG, Page
+from web.tests.browser import ENDLESS, LONG, Page
 from support.examples import README
 from support.machines import CHAMPION_OF_FOUR, HALT
 from support.program import as_lines

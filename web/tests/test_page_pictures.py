@@ -6,11 +6,11 @@ import re
 import time
 
 import pytest
-from support.browser import HEAD, WHEEL, Page, soon
-from support.gestures import Keys, cell_at, place_of, send_mouse, window_point
+from web.tests.browser import HEAD, WHEEL, Page, soon
+from web.tests.gestures import Keys, cell_at, place_of, send_mouse, window_point
 from support.machines import CHAMPION, CHAMPION_OF_FOUR, LATE, TREE, seldom_halting
-from support.node import Engine
-from support.page_times import PAUSE, end, steps_seen, traced_views, views
+from web.tests.node import Engine
+from web.tests.page_times import PAUSE, end, steps_seen, traced_views, views
 from support.traces import Row, format_number, trace
 
 TRANSLATED = "1LB0LA_1RA---"

@@ -1,8 +1,8 @@
 """The exact recurrence of an open machine: its facts, its last uses, and its marks in the diagram."""
 
 import pytest
-from support.browser import Page, View
-from support.gestures import Keys
+from web.tests.browser import Page, View
+from web.tests.gestures import Keys
 from support.machines import CHAMPION, HALT, LATE
 from support.recurrences import reply_to_pair
 from support.traces import format_number, trace

@@ -2,8 +2,8 @@
 
 import time
 
-from support.browser import LONG, Page, soon
-from support.gestures import Keys
+from web.tests.browser import LONG, Page, soon
+from web.tests.gestures import Keys
 from support.machines import CHAMPION, CHAMPION_OF_FOUR, HALT
 
 CHOSEN = "return $$('#shown [aria-selected=true]').map((row) => row.children[1].textContent)"

@@ -25,7 +25,7 @@ from support import ListMachines, require, restore_signals
 from support.clusters import cluster
 from support.program import as_lines, replies, run_command, write_script
 from support.recurrences import reply_to_pair
-from support.runner import Answering, reseal
+from python.tests.runner import Answering, reseal
 from support.shards import counts_in
 
 Whole = Callable[[int], str]

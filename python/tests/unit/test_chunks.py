@@ -16,8 +16,8 @@ from budlarem._text import LONGEST_GIVEN
 from budlarem.runner import chunks, errors, input, passes, store
 from budlarem.runner.errors import ReplyError, RunError
 from hypothesis import strategies as st
-from support.runner import KINDS, LIST, MIDDLE, PASSES, SMALL, RunCase, call_command, counts_of
-from support.runner import expected_verdicts
+from python.tests.runner import KINDS, LIST, MIDDLE, PASSES, SMALL, RunCase, call_command, counts_of
+from python.tests.runner import expected_verdicts
 
 
 def take_all(blocks: Iterator[bytes], lines: int, size: int) -> list[bytes]:

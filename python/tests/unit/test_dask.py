@@ -12,7 +12,7 @@ import pytest
 from budlarem.commands import build_parser, run as command
 from budlarem.runner import chunks, dask, progress
 from budlarem.runner.errors import DeadWorkersError, RunError
-from support.runner import call_command
+from python.tests.runner import call_command
 
 LIMITS = (30, 16, 3, 5)
 LINES = b"1RZ---\n1RA1RA\n0RZ---\n1LA1LA\n1LZ---\n"

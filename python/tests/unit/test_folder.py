@@ -17,7 +17,7 @@ import pytest
 from budlarem import Limits, _api, _files, _library, publish
 from budlarem.runner import chunks, folder
 from budlarem.runner.errors import FolderError, MovedError, RunError
-from support.runner import LIST, PASSES, SMALL, RunCase, act, expected_verdicts
+from python.tests.runner import LIST, PASSES, SMALL, RunCase, act, expected_verdicts
 
 
 def contents(top: pathlib.Path) -> dict[str, bytes]:

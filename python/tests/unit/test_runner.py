@@ -20,8 +20,8 @@ import pytest
 from budlarem import Limits, _files
 from budlarem.runner import chunks, folder, input, pass_folder, passes, store
 from budlarem.runner.errors import CheckError, DeadWorkersError, FolderError, MovedError, RunError, UsageError
-from support.runner import KINDS, LIST, MIDDLE, PASSES, SMALL, Answering, KeptProgress, Late, RunCase
-from support.runner import PoolBackend, act, answer_with, counts_of, expected_verdicts, reseal
+from python.tests.runner import KINDS, LIST, MIDDLE, PASSES, SMALL, Answering, KeptProgress, Late, RunCase
+from python.tests.runner import PoolBackend, act, answer_with, counts_of, expected_verdicts, reseal
 
 
 def require_verdicts(

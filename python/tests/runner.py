@@ -15,7 +15,7 @@ from budlarem.counts import KINDS as KINDS_OF_VERDICTS, VerdictCounts
 from budlarem.runner import backends, chunks, folder, input, pass_folder, passes, progress
 from budlarem.runner.backends import PoolBackend as PoolBackend
 
-from .program import decide_in_passes
+from support.program import decide_in_passes
 
 # Two that halt, a cycler, two translated cyclers, three that small limits leave, one of which larger ones
 # decide, and two that are no machines.

@@ -2,7 +2,7 @@
 
 from typing import Any, Sequence
 
-from .browser import Page, View
+from web.tests.browser import Page, View
 
 Point = tuple[float, float]
 # The moves of a gesture.

@@ -11,7 +11,7 @@ import threading
 import time
 from typing import Any, Callable, Sequence
 
-from .program import SWITCHES, run_command, words_of_plan
+from support.program import SWITCHES, run_command, words_of_plan
 
 # Finds elements by id and by selector, and records the longest task that blocked the page, in milliseconds.
 HELPERS = """

@@ -6,8 +6,8 @@ import pathlib
 import subprocess
 from typing import Any, NamedTuple
 
-from . import TOP, read_blocks
-from .program import run_command, words_of_plan
+from support import TOP, read_blocks
+from support.program import run_command, words_of_plan
 
 MODULE = TOP / "web" / "out" / "bb.wasm"
 

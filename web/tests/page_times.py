@@ -2,8 +2,8 @@
 
 import time
 
-from .browser import Page
-from .machines import CHAMPION
+from web.tests.browser import Page
+from support.machines import CHAMPION
 
 # The last step of the views, and the step where they are zoomed.
 STEPS, LATE = 10_000_000, 9_900_000
