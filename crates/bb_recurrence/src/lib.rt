@@ -4,6 +4,7 @@
 
 mod counts;
 mod factors;
+pub mod finder;
 mod history;
 pub mod laws;
 mod lockstep;
@@ -16,8 +17,9 @@ pub mod uses;
 pub mod verdict;
 
 pub use counts::RecurrenceCounts;
-pub use recurrence::{Recurrence, Tapes, find_recurrence};
+pub use finder::{Finder, Tapes};
+pub use recurrence::{KnownPair, Recurrence};
 pub use recurrences::run_recurrence;
-pub use rings::ring_tapes;
+pub use rings::ring_finder;
 pub use uses::{LastUse, LastUses};
-pub use verdict::{Finding, find};
+pub use verdict::Finding;
