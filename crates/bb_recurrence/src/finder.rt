@@ -155,15 +155,15 @@ impl<T: Tape> Finder<T> {
             pair.run_to(&mut runner, run, pair.second, uses, meter)?;
             return Ok(uses.history.recurrence(pair));
         }
-        let (start, runner, whole) = pair.find_start(tapes, uses, meter)?;
+        let start = pair.find_start(tapes, uses, meter)?;
         let saved = SavedPair {
             pair: *pair,
-            runner,
+            runner: start.runner,
         };
         let period = saved.least_period(tapes, meter)?;
-        let shift = saved.find_shift(period, whole, tapes, meter)?;
+        let shift = saved.find_shift(period, start.whole, tapes, meter)?;
         Ok(Recurrence {
-            start,
+            start: start.step,
             period,
             shift,
         })

@@ -40,29 +40,38 @@ pub struct KnownPair<'a> {
     pub second: u64,
 }
 
+/// The start of a recurrence, and the run at the first step of the pair.
+#[derive(Clone, Copy)]
+pub(crate) struct Start {
+    /// The first step from which on the transitions are those of `second - first` steps later.
+    pub(crate) step: u64,
+    /// The run at the first step of the pair, on the tape `pair.saved`.
+    pub(crate) runner: Runner,
+    /// How many cells the head is farther to the right at the second step.
+    pub(crate) whole: i64,
+}
+
 impl KnownPair<'_> {
     /// Advances a run to the first step, and one ahead of it to the second, and records the last uses. Saves
-    /// the tape of the first step. Returns the first step from which on the transitions are those of
-    /// `second - first` steps later, and the runner at the first step. The last number tells how many cells
-    /// the head is farther to the right at the second step.
+    /// the tape of the first step.
     pub(crate) fn find_start<T: Tape>(
         &self,
         tapes: &mut Tapes<T>,
         uses: &mut LastUses,
         meter: &mut Meter,
-    ) -> Result<(u64, Runner, i64), Memory>
+    ) -> Result<Start, Memory>
         requires goes_on { IsOpenPair self.now }
         requires tapes { TapesHaveCells T.view self.now.limits.now.cells tapes.old }
         requires order { self.now.first ≤ self.now.second }
         requires room { meter.old.steps + self.now.first + self.now.second < 2 ^ 64 }
         requires recorded { AreRecorded self.now.machine.now 0 uses.old }
         ensures at { IfOk result (λ found.
-            IsAtStep self.now self.now.first found.1 (T.view tapes.new.pair.saved)) }
+            IsAtStep self.now self.now.first found.runner (T.view tapes.new.pair.saved)) }
         ensures start { IfOk result (λ found.
-            IsSeenStart self.now.machine.now self.now.first (distance_of self.now) found.0) }
+            IsSeenStart self.now.machine.now self.now.first (distance_of self.now) found.step) }
         ensures shift { IfOk result (λ found.
-            IsShift self.now.machine.now self.now.first (distance_of self.now) found.2) }
-        ensures near { IfOk result (λ found. IsNear found.2) }
+            IsShift self.now.machine.now self.now.first (distance_of self.now) found.whole) }
+        ensures near { IfOk result (λ found. IsNear found.whole) }
         ensures uses { OnOk result (AreSeen self.now.machine.now self.now.second uses.new) }
         ensures counted { OnOk result
             (meter.new.steps ≡ meter.old.steps + self.now.first + self.now.second) }
@@ -76,12 +85,16 @@ impl KnownPair<'_> {
         };
         let distance = self.second - self.first;
         self.run_to(&mut both.ahead, &mut tapes.ahead, distance, uses, meter)?;
-        let start = both.follow(self, tapes, uses, meter)?;
+        let step = both.follow(self, tapes, uses, meter)?;
         let whole = both.ahead.position() - both.runner.position();
         let Ok(()) = tapes.pair.saved.copy_from(&tapes.pair.run) else {
             return Err(Memory);
         };
-        Ok((start, both.runner, whole))
+        Ok(Start {
+            step,
+            runner: both.runner,
+            whole,
+        })
     }
 
     /// Advances a run to a step, with something followed along it.

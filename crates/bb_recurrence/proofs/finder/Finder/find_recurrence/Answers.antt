@@ -32,6 +32,12 @@ returns-then-pair-le-MAX_RECORDED-clause-few g c =
 
 -- ---- a longer one
 
+pub find_shift-requires-clause-saved : goal.find_shift-requires-clause-saved
+find_shift-requires-clause-saved g c = record {
+  goes_on = record { never = c.requires.pair.repeats.never; inside = c.requires.pair.inside };
+  at = rw c.least_period.ensures.saved c.in_ok-start.ensures.at;
+}
+
 pub find_shift-requires-clause-room : goal.find_shift-requires-clause-room
 find_shift-requires-clause-room g c =
     let accepted = c.show_accepted.ensures.accepted in
