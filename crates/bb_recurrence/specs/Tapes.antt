@@ -13,6 +13,7 @@ pub record TapesHaveCells {T : Type 0} (view : T → TapeView) (cells : ℕ) (ta
   pub ahead : (view tapes.ahead).limit ≡ cells
 
 -- the tapes have the cells of the bounds, and the path has room for their levels
-pub record HasMemoryFor {T : Type 0} (view : T → TapeView) (bounds : Bounds) (finder : Finder T) : Type 0 where
+pub record HasMemoryFor {T : Type 0} (view : T → TapeView) (bounds : Bounds) (finder : Finder T)
+    : Type 0 where
   pub tapes : TapesHaveCells view bounds.cells finder.tapes
   pub path : bounds.depth ≤ depth_of finder.path

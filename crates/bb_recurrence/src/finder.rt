@@ -66,10 +66,11 @@ impl<T: Tape> Finder<T> {
         }
     }
 
-    /// Finds the exact recurrence of a machine's run, if a verdict is a pair and the checker confirms it under
-    /// these limits. Resets `meter`, and counts there the steps and the cells of the check. If its second step
-    /// is past 4,096, the steps of `find_recurrence` are added; else the checker's run is recorded, and no
-    /// other is made. For a confirmed pair `uses` then has the last uses up to its second step.
+    /// Finds the exact recurrence of a machine's run, if a verdict is a pair and the checker confirms it
+    /// under these limits. Resets `meter`, and counts there the steps and the cells of the check. If its
+    /// second step is past 4,096, the steps of `find_recurrence` are added; else the checker's run is
+    /// recorded, and no other is made. For a confirmed pair `uses` then has the last uses up to its second
+    /// step.
     pub fn find(
         &mut self,
         machine: &Machine,
@@ -122,9 +123,9 @@ impl<T: Tape> Finder<T> {
     /// other step needs to be. Resets `uses`, and records there the last uses up to the second step.
     ///
     /// The steps are counted in `meter`. A run of at most 4,096 steps is made once and recorded: it costs
-    /// `second`. A longer one costs `first + second` for the start and the last uses, the period for the shift
-    /// if that is less than the distance, and at most 4 * log2(`second - first`) times the distance for the
-    /// least period.
+    /// `second`. A longer one costs `first + second` for the start and the last uses, the period for the
+    /// shift if that is less than the distance, and at most 4 * log2(`second - first`) times the distance
+    /// for the least period.
     pub fn find_recurrence(
         &mut self,
         pair: &KnownPair,

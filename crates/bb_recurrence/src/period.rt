@@ -75,7 +75,8 @@ impl SavedPair<'_> {
         requires within { self.now.pair.first + known ≤ self.now.pair.second }
         requires repeats { Repeats self.now.pair.machine.now self.now.pair.first known }
         requires room { meter.old.steps + 4 * known < 2 ^ 64 }
-        ensures reduced { IfOk result (IsReduced self.now.pair.machine.now self.now.pair.first known divisor) }
+        ensures reduced { IfOk result
+            (IsReduced self.now.pair.machine.now self.now.pair.first known divisor) }
         ensures no_less { meter.old.steps ≤ meter.new.steps }
         ensures few { meter.new.steps ≤ meter.old.steps + 4 * known }
         ensures saved { T.view tapes.new.pair.saved ≡ T.view tapes.old.pair.saved }
@@ -144,7 +145,8 @@ impl SavedPair<'_> {
         requires saved { IsSaved T.view tapes.old self.now }
         requires tapes { TapesHaveCells T.view self.now.pair.limits.now.cells tapes.old }
         requires within { self.now.pair.first + period ≤ self.now.pair.second }
-        requires whole { IsShift self.now.pair.machine.now self.now.pair.first (distance_of self.now.pair) whole }
+        requires whole { IsShift self.now.pair.machine.now self.now.pair.first
+            (distance_of self.now.pair) whole }
         requires near { IsNear whole }
         requires room { meter.old.steps + period < 2 ^ 64 }
         ensures shift { IfOk result (IsShift self.now.pair.machine.now self.now.pair.first period) }

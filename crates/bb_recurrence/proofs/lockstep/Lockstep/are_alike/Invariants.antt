@@ -13,9 +13,11 @@ invariant-loop-self g l = record {
   saved : g.T.Tape.view l.tapes.pair.saved ≡ g.T.Tape.view l.fn.tapes.pair.saved;
   tapes : TapesHaveCells g.T.Tape.view l.pair.limits.now.cells l.tapes;
   later : steps_of l.fn.self.runner ≤ steps_of l.self.runner;
-  apart : steps_of l.self.ahead ≡ steps_of l.self.runner + (steps_of l.fn.self.ahead - steps_of l.fn.self.runner);
+  apart : steps_of l.self.ahead
+      ≡ steps_of l.self.runner + (steps_of l.fn.self.ahead - steps_of l.fn.self.runner);
   same : (n : ℕ) → steps_of l.fn.self.runner ≤ n → n < steps_of l.self.runner
-      → transition_at l.pair.machine.now (n + (steps_of l.fn.self.ahead - steps_of l.fn.self.runner)) ≡ transition_at l.pair.machine.now n;
+      → transition_at l.pair.machine.now (n + (steps_of l.fn.self.ahead - steps_of l.fn.self.runner))
+      ≡ transition_at l.pair.machine.now n;
   near : steps_of l.self.ahead - steps_of l.fn.self.ahead ≤ l.end - steps_of l.fn.self.ahead;
   counted : l.meter.steps ≡ l.fn.meter.steps + 2 * (steps_of l.self.ahead - steps_of l.fn.self.ahead);
 }

@@ -20,7 +20,8 @@ row_into-requires-clause-room c =
 
 pub loop-state-preserved : goal.loop-state-preserved
 loop-state-preserved c = record {
-  written = appends_row _ (symbols_of c.args.self.now.machine.now) c.loop-state.state _ _ _ c.loop-state.invariant.written c.row_into.ensures.uses;
+  written = appends_row _ (symbols_of c.args.self.now.machine.now) c.loop-state.state _ _ _
+      c.loop-state.invariant.written c.row_into.ensures.uses;
   short = omega (arith, c.loop-state.invariant.short, c.row_into.ensures.short);
 }
 
