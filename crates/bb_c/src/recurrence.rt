@@ -12,7 +12,7 @@ use crate::buffer::{CLEAN, LIMITS, MEMORY, NOT_CLEAN, SHORT, fill_buffer};
 use bb_lines::watched::Watched;
 use bb_machine::Limits;
 use bb_recurrence::laws::recurrence_replies_are_short;
-use bb_recurrence::{RecurrenceCounts, ring_tapes, run_recurrence};
+use bb_recurrence::{RecurrenceCounts, ring_finder, run_recurrence};
 use bb_tape::Memory;
 use std::alloc::Global;
 
@@ -71,7 +71,7 @@ fn recurrences(
     ensures clean { IfOk result
         (λ given. IsTrue given.1 ↔ AllByRecursion (IsFine limits.now) (lines list.now)) }
 {
-    let (mut tapes, mut path) = ring_tapes(alloc, limits)?;
+    let mut finder = ring_finder(alloc, limits)?;
     let mut reader = Watched::new(list);
     let mut writer = Watched::new(Vec::new(alloc));
     let counts = RecurrenceCounts::default();
@@ -80,8 +80,7 @@ fn recurrences(
         &mut writer,
         limits,
         entries,
-        &mut tapes,
-        &mut path,
+        &mut finder,
         &counts,
     ) {
         Ok(summary) => Ok((writer.into_inner(), summary.clean)),

@@ -4,6 +4,7 @@ pub mod History
 pub mod LastUses
 pub mod Laws
 pub mod Lockstep
+pub mod Pairs
 pub mod Parts
 pub mod Period
 pub mod Recurrence

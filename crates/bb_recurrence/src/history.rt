@@ -8,9 +8,10 @@ ghost use Rattle.laws_of_recurrence.specs.Shift.{IsShift};
 ghost use Rattle.bb_recurrence.specs.History.{IsRecorded, UsesPlace};
 ghost use Rattle.laws_of_recurrence.specs.Recurrence.{Repeats, RepeatsExactly};
 ghost use Rattle.bb_recurrence.specs.Lockstep.{TellsRepeats};
+ghost use Rattle.bb_recurrence.specs.Pairs.{distance_of};
 ghost use Rattle.bb_recurrence.specs.Period.{IsLeastFrom, TellsPart};
 
-use crate::recurrence::Recurrence;
+use crate::recurrence::{KnownPair, Recurrence};
 use bb_machine::{Dir, Entry, MAX_SYMBOLS, Machine};
 
 /// The most steps that are recorded.
@@ -46,20 +47,21 @@ impl History {
         }
     }
 
-    /// The recurrence of a run that repeats from `first` on with the period `second - first`.
-    pub(crate) fn recurrence(&self, machine: &Machine, first: u64, second: u64) -> Recurrence
-        requires order { first < second }
-        requires few { second ≤ MAX_RECORDED }
-        requires recorded { IsRecorded machine.now second self.now }
-        requires pair { Repeats machine.now first (second - first) }
-        ensures exact { RepeatsExactly machine.now result.start result.period }
-        ensures shift { IsShift machine.now result.start result.period result.shift }
-        ensures early { result.start ≤ first }
-        ensures whole { result.start + result.period ≤ second }
+    /// The recurrence of a run that is recorded up to the second step of a pair.
+    pub(crate) fn recurrence(&self, pair: &KnownPair) -> Recurrence
+        requires order { pair.now.first < pair.now.second }
+        requires few { pair.now.second ≤ MAX_RECORDED }
+        requires recorded { IsRecorded pair.now.machine.now pair.now.second self.now }
+        requires repeats { Repeats pair.now.machine.now pair.now.first (distance_of pair.now) }
+        ensures exact { RepeatsExactly pair.now.machine.now result.start result.period }
+        ensures shift { IsShift pair.now.machine.now result.start result.period result.shift }
+        ensures early { result.start ≤ pair.now.first }
+        ensures whole { result.start + result.period ≤ pair.now.second }
     {
-        let start = self.start(first, second - first);
-        let period = self.period(first, second - first);
-        let shift = self.shift(machine, first, first + period);
+        let distance = pair.second - pair.first;
+        let start = self.start(pair.first, distance);
+        let period = self.period(pair.first, distance);
+        let shift = self.shift(pair.machine, pair.first, pair.first + period);
         Recurrence {
             start,
             period,

@@ -1,132 +1,122 @@
-//! Two copies of a run, advanced together. The run goes on for ever, and is inside the limits up to its step
-//! `last`.
-ghost use Rattle.std.specs.Prelude.{◌≡◌, ◌+◌, ◌-◌, ◌*◌, ◌<◌, ◌≤◌, ◌^◌, ◌↔◌, IfOk, IsTrue, OnErr, OnOk};
+//! Two copies of a run, advanced together.
+ghost use Rattle.std.specs.Prelude.{◌≡◌, ◌+◌, ◌-◌, ◌*◌, ◌<◌, ◌≤◌, ◌^◌, ◌↔◌};
+ghost use Rattle.std.specs.Prelude.{IfOk, IsTrue, MatchBool, OnErr, OnOk};
 ghost use Rattle.bb_tape.specs.TapeView.{IsInside};
 ghost use Rattle.bb_sim.specs.Runner.{position_of, steps_of};
-ghost use Rattle.bb_recurrence.specs.Lockstep.{IsAt, IsOpen, TellsRepeats, transition_here};
+ghost use Rattle.laws_of_recurrence.specs.Seen.{IsSeenStart};
+ghost use Rattle.bb_recurrence.specs.LastUses.{AreRecorded};
+ghost use Rattle.bb_recurrence.specs.Lockstep.{TellsRepeats, transition_here};
+ghost use Rattle.bb_recurrence.specs.Pairs.{IsAtStep, IsOpenPair, distance_of};
+ghost use Rattle.bb_recurrence.specs.Tapes.{TapesHaveCells};
 
-use bb_cert::Course;
-use bb_machine::{Limits, Machine};
-use bb_sim::{Meter, Moved, Runner};
+use crate::finder::Tapes;
+use crate::recurrence::KnownPair;
+use crate::uses::LastUses;
+use bb_sim::{Meter, Runner};
 use bb_tape::{Memory, Tape};
 
-/// Whether two runners use the same transition next.
-#[inline]
-pub(crate) fn has_same_transition<T: Tape>(
-    runner: &Runner,
-    tape: &T,
-    other: &Runner,
-    other_tape: &T,
-) -> bool
-    requires inside { IsInside (T.view tape.now) (position_of runner.now) }
-    requires other_inside { IsInside (T.view other_tape.now) (position_of other.now) }
-    ensures { IsTrue result ↔ (transition_here runner.now (T.view tape.now)
-        ≡ transition_here other.now (T.view other_tape.now)) }
-{
-    tape.read_inside(runner.position()) == other_tape.read_inside(other.position())
-        && runner.state() == other.state()
+/// Two copies of a run, one ahead of the other, each on a tape of its own.
+#[derive(Clone, Copy)]
+pub(crate) struct Lockstep {
+    /// The run, on the tape `pair.run`.
+    pub(crate) runner: Runner,
+    /// The run ahead, on the tape `ahead`.
+    pub(crate) ahead: Runner,
 }
 
-/// Makes one step, and takes it in.
+impl Lockstep {
+    /// Advances both to the two steps of a pair, the one ahead from `second - first` on, and records the last
+    /// uses. Returns the first step from which on both use the same transitions.
+    pub(crate) fn follow<T: Tape>(
+        &mut self,
+        pair: &KnownPair,
+        tapes: &mut Tapes<T>,
+        uses: &mut LastUses,
+        meter: &mut Meter,
+    ) -> Result<u64, Memory>
+        requires goes_on { IsOpenPair pair.now }
+        requires tapes { TapesHaveCells T.view pair.now.limits.now.cells tapes.old }
+        requires order { pair.now.first ≤ pair.now.second }
+        requires at { IsAtStep pair.now 0 self.old.runner (T.view tapes.old.pair.run) }
+        requires ahead { IsAtStep pair.now (distance_of pair.now) self.old.ahead (T.view tapes.old.ahead) }
+        requires room { meter.old.steps + 2 * pair.now.first < 2 ^ 64 }
+        requires recorded { AreRecorded pair.now.machine.now (distance_of pair.now) uses.old }
+        ensures at { OnOk result
+            (IsAtStep pair.now pair.now.first self.new.runner (T.view tapes.new.pair.run)) }
+        ensures ahead { OnOk result
+            (IsAtStep pair.now pair.now.second self.new.ahead (T.view tapes.new.ahead)) }
+        ensures start { IfOk result
+            (IsSeenStart pair.now.machine.now pair.now.first (distance_of pair.now)) }
+        ensures recorded { OnOk result (AreRecorded pair.now.machine.now pair.now.second uses.new) }
+        ensures counted { OnOk result (meter.new.steps ≡ meter.old.steps + 2 * pair.now.first) }
+        ensures few { meter.new.steps ≤ meter.old.steps + 2 * pair.now.first }
+        ensures tapes { TapesHaveCells T.view pair.now.limits.now.cells tapes.new }
+        ensures memory { OnErr result (IsTrue T.GROWS) }
+    {
+        let mut start = 0;
+        while self.runner.steps() < pair.first {
+            let same = self.has_same_transition(tapes);
+            start = start_after(start, self.runner.steps(), same);
+            pair.step(&mut self.runner, &mut tapes.pair.run, &mut (), meter)?;
+            pair.step(&mut self.ahead, &mut tapes.ahead, uses, meter)?;
+        }
+        Ok(start)
+    }
+
+    /// Whether both use the same transitions until the one ahead comes to a step.
+    pub(crate) fn are_alike<T: Tape>(
+        &mut self,
+        pair: &KnownPair,
+        tapes: &mut Tapes<T>,
+        end: u64,
+        meter: &mut Meter,
+    ) -> Result<bool, Memory>
+        requires goes_on { IsOpenPair pair.now }
+        requires tapes { TapesHaveCells T.view pair.now.limits.now.cells tapes.old }
+        requires at { IsAtStep pair.now (steps_of self.old.runner)
+            self.old.runner (T.view tapes.old.pair.run) }
+        requires ahead { IsAtStep pair.now (steps_of self.old.ahead)
+            self.old.ahead (T.view tapes.old.ahead) }
+        requires later { steps_of self.old.runner ≤ steps_of self.old.ahead }
+        requires within { end ≤ pair.now.second }
+        requires room { meter.old.steps + 2 * (end - steps_of self.old.ahead) < 2 ^ 64 }
+        ensures tells { IfOk result (TellsRepeats pair.now.machine.now (steps_of self.old.runner)
+            (steps_of self.old.ahead - steps_of self.old.runner) end) }
+        ensures no_less { meter.old.steps ≤ meter.new.steps }
+        ensures few { meter.new.steps ≤ meter.old.steps + 2 * (end - steps_of self.old.ahead) }
+        ensures saved { T.view tapes.new.pair.saved ≡ T.view tapes.old.pair.saved }
+        ensures tapes { TapesHaveCells T.view pair.now.limits.now.cells tapes.new }
+        ensures memory { OnErr result (IsTrue T.GROWS) }
+    {
+        while self.ahead.steps() < end {
+            if !self.has_same_transition(tapes) {
+                return Ok(false);
+            }
+            pair.step(&mut self.runner, &mut tapes.pair.run, &mut (), meter)?;
+            pair.step(&mut self.ahead, &mut tapes.ahead, &mut (), meter)?;
+        }
+        Ok(true)
+    }
+
+    /// Whether both use the same transition next.
+    #[inline]
+    fn has_same_transition<T: Tape>(&self, tapes: &Tapes<T>) -> bool
+        requires inside { IsInside (T.view tapes.now.pair.run) (position_of self.now.runner) }
+        requires ahead_inside { IsInside (T.view tapes.now.ahead) (position_of self.now.ahead) }
+        ensures { IsTrue result ↔ (transition_here self.now.runner (T.view tapes.now.pair.run)
+            ≡ transition_here self.now.ahead (T.view tapes.now.ahead)) }
+    {
+        let symbol = tapes.pair.run.read_inside(self.runner.position());
+        symbol == tapes.ahead.read_inside(self.ahead.position())
+            && self.runner.state() == self.ahead.state()
+    }
+}
+
+/// The start of the same transitions in two runs, after a step with the same transition or another one.
 #[inline(always)]
-pub(crate) fn step<C: Course, T: Tape>(
-    machine: &Machine,
-    runner: &mut Runner,
-    tape: &mut T,
-    limits: &Limits,
-    last: u64,
-    course: &mut C,
-    meter: &mut Meter,
-) -> Result<(), Memory>
-    requires goes_on { IsOpen machine.now limits.now last }
-    requires at { IsAt machine.now limits.now (steps_of runner.old) runner.old (T.view tape.old) }
-    requires before { steps_of runner.old < last }
-    requires room { meter.old.steps + 1 < 2 ^ 64 }
-    ensures at { OnOk result
-        (IsAt machine.now limits.now (steps_of runner.old + 1) runner.new (T.view tape.new)) }
-    ensures goes_on { OnOk result
-        (C.goes_on machine.now (steps_of runner.old) (steps_of runner.old + 1) course.old course.new) }
-    ensures counted { OnOk result (meter.new.steps ≡ meter.old.steps + 1) }
-    ensures uncounted { OnErr result (meter.new.steps ≡ meter.old.steps) }
-    ensures limit { (T.view tape.new).limit ≡ limits.now.cells }
-    ensures memory { OnErr result (IsTrue T.GROWS) }
+fn start_after(start: u64, step: u64, same: bool) -> u64
+    requires { step + 1 < 2 ^ 64 }
+    ensures { MatchBool same (result ≡ start) (result ≡ step + 1) }
 {
-    let before = *runner;
-    let symbol = tape.read_inside(before.position());
-    match runner.advance(machine, tape, limits, meter)? {
-        Moved::Stepped => {
-            course.take_in(machine, &before, symbol, runner);
-            Ok(())
-        }
-        Moved::Halted => unreachable!(),
-        Moved::NoSteps => unreachable!(),
-        Moved::NoCells => unreachable!(),
-    }
-}
-
-/// Advances a run to a step, with something followed along it.
-pub(crate) fn run_to<C: Course, T: Tape>(
-    machine: &Machine,
-    runner: &mut Runner,
-    tape: &mut T,
-    limits: &Limits,
-    to: u64,
-    last: u64,
-    course: &mut C,
-    meter: &mut Meter,
-) -> Result<(), Memory>
-    requires goes_on { IsOpen machine.now limits.now last }
-    requires at { IsAt machine.now limits.now (steps_of runner.old) runner.old (T.view tape.old) }
-    requires later { steps_of runner.old ≤ to }
-    requires within { to ≤ last }
-    requires room { meter.old.steps + (to - steps_of runner.old) < 2 ^ 64 }
-    ensures at { OnOk result (IsAt machine.now limits.now to runner.new (T.view tape.new)) }
-    ensures goes_on { OnOk result (C.goes_on machine.now (steps_of runner.old) to course.old course.new) }
-    ensures counted { OnOk result
-        (meter.new.steps ≡ meter.old.steps + (to - steps_of runner.old)) }
-    ensures no_less { meter.old.steps ≤ meter.new.steps }
-    ensures few { meter.new.steps ≤ meter.old.steps + (to - steps_of runner.old) }
-    ensures limit { (T.view tape.new).limit ≡ limits.now.cells }
-    ensures memory { OnErr result (IsTrue T.GROWS) }
-{
-    while runner.steps() < to {
-        step(machine, runner, tape, limits, last, course, meter)?;
-    }
-    Ok(())
-}
-
-/// Whether a run and one ahead of it use the same transitions until the one ahead comes to a step.
-pub(crate) fn are_alike<T: Tape>(
-    machine: &Machine,
-    runner: &mut Runner,
-    tape: &mut T,
-    ahead: &mut Runner,
-    ahead_tape: &mut T,
-    limits: &Limits,
-    end: u64,
-    last: u64,
-    meter: &mut Meter,
-) -> Result<bool, Memory>
-    requires goes_on { IsOpen machine.now limits.now last }
-    requires at { IsAt machine.now limits.now (steps_of runner.old) runner.old (T.view tape.old) }
-    requires ahead { IsAt machine.now limits.now (steps_of ahead.old) ahead.old (T.view ahead_tape.old) }
-    requires later { steps_of runner.old ≤ steps_of ahead.old }
-    requires within { end ≤ last }
-    requires room { meter.old.steps + 2 * (end - steps_of ahead.old) < 2 ^ 64 }
-    ensures tells { IfOk result (TellsRepeats machine.now (steps_of runner.old)
-        (steps_of ahead.old - steps_of runner.old) end) }
-    ensures no_less { meter.old.steps ≤ meter.new.steps }
-    ensures few { meter.new.steps ≤ meter.old.steps + 2 * (end - steps_of ahead.old) }
-    ensures limit { (T.view tape.new).limit ≡ limits.now.cells }
-    ensures ahead_limit { (T.view ahead_tape.new).limit ≡ limits.now.cells }
-    ensures memory { OnErr result (IsTrue T.GROWS) }
-{
-    while ahead.steps() < end {
-        if !has_same_transition(runner, tape, ahead, ahead_tape) {
-            return Ok(false);
-        }
-        step(machine, runner, tape, limits, last, &mut (), meter)?;
-        step(machine, ahead, ahead_tape, limits, last, &mut (), meter)?;
-    }
-    Ok(true)
+    if same { start } else { step + 1 }
 }

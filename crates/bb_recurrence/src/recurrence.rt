@@ -1,22 +1,19 @@
-//! The exact recurrence of a run, from a known pair.
-ghost use Rattle.std.specs.Prelude.{◌≡◌, ◌+◌, ◌-◌, ◌*◌, ◌<◌, ◌≤◌, ◌^◌};
-ghost use Rattle.std.specs.Prelude.{IfOk, IsTrue, MatchBool, OnErr, OnOk};
-ghost use Rattle.bb_sim.specs.Span.{Inside};
-ghost use Rattle.laws_of_recurrence.specs.Recurrence.{Repeats, RepeatsExactly};
+//! The exact recurrence of a run, and the pair of steps that it is found from.
+ghost use Rattle.std.specs.Prelude.{◌≡◌, ◌+◌, ◌-◌, ◌<◌, ◌≤◌, ◌^◌, IfOk, IsTrue, OnErr, OnOk};
+ghost use Rattle.bb_sim.specs.Runner.{steps_of};
 ghost use Rattle.laws_of_recurrence.specs.Seen.{IsSeenStart};
 ghost use Rattle.laws_of_recurrence.specs.Shift.{IsShift};
 ghost use Rattle.bb_recurrence.specs.LastUses.{AreRecorded, AreSeen};
-ghost use Rattle.bb_recurrence.specs.Lockstep.{IsAt, IsNear, IsOpen};
-ghost use Rattle.bb_recurrence.specs.Recurrence.{CountsAtMost, CountsRecurrence, CountsShift};
+ghost use Rattle.bb_recurrence.specs.Lockstep.{IsNear};
+ghost use Rattle.bb_recurrence.specs.Pairs.{IsAtStep, IsOpenPair, distance_of};
 ghost use Rattle.bb_recurrence.specs.Tapes.{TapesHaveCells};
 
-use crate::history::MAX_RECORDED;
-use crate::lockstep::{has_same_transition, run_to, step};
-use crate::period::least_period;
+use crate::finder::Tapes;
+use crate::lockstep::Lockstep;
 use crate::uses::LastUses;
-use bb_cert::Pair;
+use bb_cert::Course;
 use bb_machine::{Limits, Machine};
-use bb_sim::{Meter, Runner};
+use bb_sim::{Meter, Moved, Runner};
 use bb_tape::{Memory, Tape};
 
 /// How a run repeats.
@@ -30,247 +27,138 @@ pub struct Recurrence {
     pub shift: i64,
 }
 
-/// The tapes for finding a recurrence. Each call resets those it uses.
-#[derive(Drop)]
-pub struct Tapes<T> {
-    /// The tape of the run, and the one saved at the first step of a pair.
-    pub pair: Pair<T>,
-    /// The tape of the run ahead.
-    pub ahead: T,
+/// Two steps of a machine's run: it repeats from the first on, and their distance is a period.
+#[derive(Clone, Copy)]
+pub struct KnownPair<'a> {
+    /// The machine of the run.
+    pub machine: &'a Machine,
+    /// The limits of the run.
+    pub limits: &'a Limits,
+    /// The first step, counted from 0.
+    pub first: u64,
+    /// The second step, one period or several later.
+    pub second: u64,
 }
 
-impl<T> Tapes<T> {
-    /// Three tapes for finding recurrences.
-    pub fn new(pair: Pair<T>, ahead: T) -> Tapes<T>
-        ensures pair { result.pair ≡ pair }
-        ensures ahead { result.ahead ≡ ahead }
+/// The start of a recurrence, and the run at the first step of the pair.
+#[derive(Clone, Copy)]
+pub(crate) struct Start {
+    /// The first step from which on the transitions are those of `second - first` steps later.
+    pub(crate) step: u64,
+    /// The run at the first step of the pair, on the tape `pair.saved`.
+    pub(crate) runner: Runner,
+    /// How many cells the head is farther to the right at the second step.
+    pub(crate) whole: i64,
+}
+
+impl KnownPair<'_> {
+    /// Advances a run to the first step, and one ahead of it to the second, and records the last uses. Saves
+    /// the tape of the first step.
+    pub(crate) fn find_start<T: Tape>(
+        &self,
+        tapes: &mut Tapes<T>,
+        uses: &mut LastUses,
+        meter: &mut Meter,
+    ) -> Result<Start, Memory>
+        requires goes_on { IsOpenPair self.now }
+        requires tapes { TapesHaveCells T.view self.now.limits.now.cells tapes.old }
+        requires order { self.now.first ≤ self.now.second }
+        requires room { meter.old.steps + self.now.first + self.now.second < 2 ^ 64 }
+        requires recorded { AreRecorded self.now.machine.now 0 uses.old }
+        ensures at { IfOk result (λ found.
+            IsAtStep self.now self.now.first found.runner (T.view tapes.new.pair.saved)) }
+        ensures start { IfOk result (λ found.
+            IsSeenStart self.now.machine.now self.now.first (distance_of self.now) found.step) }
+        ensures shift { IfOk result (λ found.
+            IsShift self.now.machine.now self.now.first (distance_of self.now) found.whole) }
+        ensures near { IfOk result (λ found. IsNear found.whole) }
+        ensures uses { OnOk result (AreSeen self.now.machine.now self.now.second uses.new) }
+        ensures counted { OnOk result
+            (meter.new.steps ≡ meter.old.steps + self.now.first + self.now.second) }
+        ensures few { meter.new.steps ≤ meter.old.steps + self.now.first + self.now.second }
+        ensures tapes { TapesHaveCells T.view self.now.limits.now.cells tapes.new }
+        ensures memory { OnErr result (IsTrue T.GROWS) }
     {
-        Tapes { pair, ahead }
+        let mut both = Lockstep {
+            runner: Runner::start(self.machine, &mut tapes.pair.run),
+            ahead: Runner::start(self.machine, &mut tapes.ahead),
+        };
+        let distance = self.second - self.first;
+        self.run_to(&mut both.ahead, &mut tapes.ahead, distance, uses, meter)?;
+        let step = both.follow(self, tapes, uses, meter)?;
+        let whole = both.ahead.position() - both.runner.position();
+        let Ok(()) = tapes.pair.saved.copy_from(&tapes.pair.run) else {
+            return Err(Memory);
+        };
+        Ok(Start {
+            step,
+            runner: both.runner,
+            whole,
+        })
     }
-}
 
-/// Finds the exact recurrence of a run. It repeats from `first` on, and the distance to `second` is a period.
-/// `second` is inside the limits; no other step needs to be. Resets `uses`, and records there the last uses up
-/// to `second`.
-///
-/// The steps are counted in `meter`. A run of at most 4,096 steps is made once and recorded: it costs
-/// `second`. A longer one costs `first + second` for the start and the last uses, the period for the shift if
-/// that is less than the distance, and at most 4 * log2(`second - first`) times the distance for the least
-/// period.
-///
-/// After an error the contents of the tapes are unspecified; the next call resets them.
-pub fn find_recurrence<T: Tape>(
-    machine: &Machine,
-    limits: &Limits,
-    first: u64,
-    second: u64,
-    tapes: &mut Tapes<T>,
-    uses: &mut LastUses,
-    meter: &mut Meter,
-) -> Result<Recurrence, Memory>
-    requires tapes { TapesHaveCells T.view limits.now.cells tapes.old }
-    requires order { first < second }
-    requires pair { Repeats machine.now first (second - first) }
-    requires inside { Inside machine.now limits.now second }
-    requires room { meter.old.steps ≤ 10 ^ 12 }
-    ensures exact { IfOk result (λ found. RepeatsExactly machine.now found.start found.period) }
-    ensures shift { IfOk result (λ found. IsShift machine.now found.start found.period found.shift) }
-    ensures early { IfOk result (λ found. found.start ≤ first) }
-    ensures uses { OnOk result (AreSeen machine.now second uses.new) }
-    ensures whole { IfOk result (λ found. found.start + found.period ≤ second) }
-    ensures counted { IfOk result (λ found.
-        CountsRecurrence first second found.period meter.old.steps meter.new.steps) }
-    ensures few { CountsAtMost first second meter.old.steps meter.new.steps }
-    ensures tapes { TapesHaveCells T.view limits.now.cells tapes.new }
-    ensures memory { OnErr result (IsTrue T.GROWS) }
-{
-    limits.show_accepted();
-    uses.reset(machine);
-    if second <= MAX_RECORDED {
-        let run = &mut tapes.pair.run;
-        let mut runner = Runner::start(machine, run);
-        run_to(
-            machine,
-            &mut runner,
-            run,
-            limits,
-            second,
-            second,
-            uses,
-            meter,
-        )?;
-        return Ok(uses.history.recurrence(machine, first, second));
+    /// Advances a run to a step, with something followed along it.
+    pub(crate) fn run_to<C: Course, T: Tape>(
+        &self,
+        runner: &mut Runner,
+        tape: &mut T,
+        to: u64,
+        course: &mut C,
+        meter: &mut Meter,
+    ) -> Result<(), Memory>
+        requires goes_on { IsOpenPair self.now }
+        requires at { IsAtStep self.now (steps_of runner.old) runner.old (T.view tape.old) }
+        requires later { steps_of runner.old ≤ to }
+        requires within { to ≤ self.now.second }
+        requires room { meter.old.steps + (to - steps_of runner.old) < 2 ^ 64 }
+        ensures at { OnOk result (IsAtStep self.now to runner.new (T.view tape.new)) }
+        ensures goes_on { OnOk result
+            (C.goes_on self.now.machine.now (steps_of runner.old) to course.old course.new) }
+        ensures counted { OnOk result
+            (meter.new.steps ≡ meter.old.steps + (to - steps_of runner.old)) }
+        ensures no_less { meter.old.steps ≤ meter.new.steps }
+        ensures few { meter.new.steps ≤ meter.old.steps + (to - steps_of runner.old) }
+        ensures limit { (T.view tape.new).limit ≡ self.now.limits.now.cells }
+        ensures memory { OnErr result (IsTrue T.GROWS) }
+    {
+        while runner.steps() < to {
+            self.step(runner, tape, course, meter)?;
+        }
+        Ok(())
     }
-    let (start, saved, whole) = find_start(machine, limits, first, second, tapes, uses, meter)?;
-    let period = least_period(machine, limits, saved, first, second, tapes, meter)?;
-    let shift = find_shift(
-        machine, limits, saved, first, period, second, whole, tapes, meter,
-    )?;
-    Ok(Recurrence {
-        start,
-        period,
-        shift,
-    })
-}
 
-/// Advances a run to the first step of a pair, and one ahead of it to the second, and records the last uses.
-/// Saves the tape of the first step. Returns the first step from which on the transitions are those of
-/// `second - first` steps later, and the runner at the first step of the pair. The last number tells how many
-/// cells the head is farther to the right at the second step.
-fn find_start<T: Tape>(
-    machine: &Machine,
-    limits: &Limits,
-    first: u64,
-    second: u64,
-    tapes: &mut Tapes<T>,
-    uses: &mut LastUses,
-    meter: &mut Meter,
-) -> Result<(u64, Runner, i64), Memory>
-    requires goes_on { IsOpen machine.now limits.now second }
-    requires tapes { TapesHaveCells T.view limits.now.cells tapes.old }
-    requires order { first ≤ second }
-    requires room { meter.old.steps + first + second < 2 ^ 64 }
-    requires recorded { AreRecorded machine.now 0 uses.old }
-    ensures at { IfOk result (λ found.
-        IsAt machine.now limits.now first found.1 (T.view tapes.new.pair.saved)) }
-    ensures start { IfOk result (λ found. IsSeenStart machine.now first (second - first) found.0) }
-    ensures shift { IfOk result (λ found. IsShift machine.now first (second - first) found.2) }
-    ensures near { IfOk result (λ found. IsNear found.2) }
-    ensures uses { OnOk result (AreSeen machine.now second uses.new) }
-    ensures counted { OnOk result (meter.new.steps ≡ meter.old.steps + first + second) }
-    ensures few { meter.new.steps ≤ meter.old.steps + first + second }
-    ensures tapes { TapesHaveCells T.view limits.now.cells tapes.new }
-    ensures memory { OnErr result (IsTrue T.GROWS) }
-{
-    let mut runner = Runner::start(machine, &mut tapes.pair.run);
-    let mut ahead = Runner::start(machine, &mut tapes.ahead);
-    run_to(
-        machine,
-        &mut ahead,
-        &mut tapes.ahead,
-        limits,
-        second - first,
-        second,
-        uses,
-        meter,
-    )?;
-    let start = follow(
-        machine,
-        limits,
-        &mut runner,
-        &mut ahead,
-        first,
-        second,
-        tapes,
-        uses,
-        meter,
-    )?;
-    let whole = ahead.position() - runner.position();
-    let Ok(()) = tapes.pair.saved.copy_from(&tapes.pair.run) else {
-        return Err(Memory);
-    };
-    Ok((start, runner, whole))
-}
-
-/// Advances both runs of `find_start` to the two steps of a pair.
-fn follow<T: Tape>(
-    machine: &Machine,
-    limits: &Limits,
-    runner: &mut Runner,
-    ahead: &mut Runner,
-    first: u64,
-    second: u64,
-    tapes: &mut Tapes<T>,
-    uses: &mut LastUses,
-    meter: &mut Meter,
-) -> Result<u64, Memory>
-    requires goes_on { IsOpen machine.now limits.now second }
-    requires tapes { TapesHaveCells T.view limits.now.cells tapes.old }
-    requires order { first ≤ second }
-    requires at { IsAt machine.now limits.now 0 runner.old (T.view tapes.old.pair.run) }
-    requires ahead { IsAt machine.now limits.now (second - first) ahead.old (T.view tapes.old.ahead) }
-    requires room { meter.old.steps + 2 * first < 2 ^ 64 }
-    requires recorded { AreRecorded machine.now (second - first) uses.old }
-    ensures at { OnOk result (IsAt machine.now limits.now first runner.new (T.view tapes.new.pair.run)) }
-    ensures ahead { OnOk result (IsAt machine.now limits.now second ahead.new (T.view tapes.new.ahead)) }
-    ensures start { IfOk result (IsSeenStart machine.now first (second - first)) }
-    ensures recorded { OnOk result (AreRecorded machine.now second uses.new) }
-    ensures counted { OnOk result (meter.new.steps ≡ meter.old.steps + 2 * first) }
-    ensures few { meter.new.steps ≤ meter.old.steps + 2 * first }
-    ensures tapes { TapesHaveCells T.view limits.now.cells tapes.new }
-    ensures memory { OnErr result (IsTrue T.GROWS) }
-{
-    let mut start = 0;
-    while runner.steps() < first {
-        let same = has_same_transition(runner, &tapes.pair.run, ahead, &tapes.ahead);
-        start = start_after(start, runner.steps(), same);
-        let run = &mut tapes.pair.run;
-        step(machine, runner, run, limits, second, &mut (), meter)?;
-        step(
-            machine,
-            ahead,
-            &mut tapes.ahead,
-            limits,
-            second,
-            uses,
-            meter,
-        )?;
+    /// Makes one step, and takes it in.
+    #[inline(always)]
+    pub(crate) fn step<C: Course, T: Tape>(
+        &self,
+        runner: &mut Runner,
+        tape: &mut T,
+        course: &mut C,
+        meter: &mut Meter,
+    ) -> Result<(), Memory>
+        requires goes_on { IsOpenPair self.now }
+        requires at { IsAtStep self.now (steps_of runner.old) runner.old (T.view tape.old) }
+        requires before { steps_of runner.old < self.now.second }
+        requires room { meter.old.steps + 1 < 2 ^ 64 }
+        ensures at { OnOk result
+            (IsAtStep self.now (steps_of runner.old + 1) runner.new (T.view tape.new)) }
+        ensures goes_on { OnOk result (C.goes_on self.now.machine.now (steps_of runner.old)
+            (steps_of runner.old + 1) course.old course.new) }
+        ensures counted { OnOk result (meter.new.steps ≡ meter.old.steps + 1) }
+        ensures uncounted { OnErr result (meter.new.steps ≡ meter.old.steps) }
+        ensures limit { (T.view tape.new).limit ≡ self.now.limits.now.cells }
+        ensures memory { OnErr result (IsTrue T.GROWS) }
+    {
+        let before = *runner;
+        let symbol = tape.read_inside(before.position());
+        match runner.advance(self.machine, tape, self.limits, meter)? {
+            Moved::Stepped => {
+                course.take_in(self.machine, &before, symbol, runner);
+                Ok(())
+            }
+            Moved::Halted => unreachable!(),
+            Moved::NoSteps => unreachable!(),
+            Moved::NoCells => unreachable!(),
+        }
     }
-    Ok(start)
-}
-
-/// The start of the same transitions in two runs, after a step with the same transition or another one.
-#[inline(always)]
-fn start_after(start: u64, step: u64, same: bool) -> u64
-    requires { step + 1 < 2 ^ 64 }
-    ensures { MatchBool same (result ≡ start) (result ≡ step + 1) }
-{
-    if same { start } else { step + 1 }
-}
-
-/// How many cells the head is farther to the right a period after the first step of a pair. `whole` is that
-/// of the second step: a run is needed only for a smaller period.
-fn find_shift<T: Tape>(
-    machine: &Machine,
-    limits: &Limits,
-    saved: Runner,
-    first: u64,
-    period: u64,
-    second: u64,
-    whole: i64,
-    tapes: &mut Tapes<T>,
-    meter: &mut Meter,
-) -> Result<i64, Memory>
-    requires tapes { TapesHaveCells T.view limits.now.cells tapes.old }
-    requires within { first + period ≤ second }
-    requires goes_on { IsOpen machine.now limits.now second }
-    requires saved { IsAt machine.now limits.now first saved (T.view tapes.old.pair.saved) }
-    requires whole { IsShift machine.now first (second - first) whole }
-    requires near { IsNear whole }
-    requires room { meter.old.steps + period < 2 ^ 64 }
-    ensures shift { IfOk result (IsShift machine.now first period) }
-    ensures near { IfOk result IsNear }
-    ensures counted { OnOk result (CountsShift first second period meter.old.steps meter.new.steps) }
-    ensures few { meter.new.steps ≤ meter.old.steps + period }
-    ensures tapes { TapesHaveCells T.view limits.now.cells tapes.new }
-    ensures memory { OnErr result (IsTrue T.GROWS) }
-{
-    if period == second - first {
-        return Ok(whole);
-    }
-    let Ok(()) = tapes.pair.run.copy_from(&tapes.pair.saved) else {
-        return Err(Memory);
-    };
-    let mut runner = saved;
-    run_to(
-        machine,
-        &mut runner,
-        &mut tapes.pair.run,
-        limits,
-        first + period,
-        second,
-        &mut (),
-        meter,
-    )?;
-    Ok(runner.position() - saved.position())
 }

@@ -1,19 +1,18 @@
 //! The exact recurrence behind each verdict line of a list.
-ghost use Rattle.std.specs.Prelude.{◌≡◌, ◌+◌, ◌≤◌, ◌↔◌, [], false, true, IsTrue};
+ghost use Rattle.std.specs.Prelude.{◌≡◌, ◌↔◌, [], false, true, IsTrue};
 ghost use Rattle.bb_tree.specs.Path.{depth_of};
 ghost use Rattle.bb_lines.specs.Watched.{is_marked, watched_inner};
 ghost use Rattle.bb_recurrence.specs.RecurrenceEnds.{RecurrenceEnds};
 ghost use Rattle.bb_recurrence.specs.RecurrenceSeen.{is_clean};
-ghost use Rattle.bb_recurrence.specs.Tapes.{TapesHaveCells};
+ghost use Rattle.bb_recurrence.specs.Tapes.{HasMemoryFor, TapesHaveCells};
 ghost use Rattle.bb_recurrence.specs.Writing.{BeginsWith, IsFindingText, IsKnown};
 
 use crate::counts::RecurrenceCounts;
-use crate::recurrence::Tapes;
-use crate::text::{append, recurrence_into};
-use crate::uses::LastUses;
-use crate::verdict::{Finding, find};
+use crate::finder::Finder;
+use crate::text::{Reply, append};
+use crate::verdict::Finding;
 use arrayvec::ArrayVec;
-use bb_cert::{Answer, LINE_BUFFER, LineContent, Path, read_line_in_place};
+use bb_cert::{Answer, LINE_BUFFER, LineContent, read_line_in_place};
 use bb_lines::fault::Fault;
 use bb_lines::lines::run;
 use bb_lines::responder::{REPLY, Responder};
@@ -27,23 +26,20 @@ use std::io::{Read, Write};
 
 /// Replies to the verdict lines of a list with recurrences.
 #[derive(Drop)]
-struct Finder<'a, T> {
+struct Replier<'a, T> {
     limits: Limits,
     // Whether the last use of each entry is printed.
     entries: bool,
-    tapes: &'a mut Tapes<T>,
-    path: &'a mut Path,
+    finder: &'a mut Finder<T>,
     // The machine of the last line with one. Each is read in its place.
     machine: Machine,
-    // The last uses by the run of the last confirmed pair.
-    uses: LastUses,
     summary: Summary,
     // The steps and nodes of the last line; 0 before the first line and for a line without a run.
     last_cost: u64,
     counts: &'a RecurrenceCounts,
 }
 
-impl<T: Tape> Responder for Finder<'_, T> {
+impl<T: Tape> Responder for Replier<'_, T> {
     ghost use Rattle.std.specs.Prelude.{◌≡◌, ◌+◌, ◌≤◌};
     ghost use Rattle.std.proofs.Common.{rules};
     ghost use Rattle.bb_cert.specs.declared.verdict.line.TheConstants.{LINE_BUFFER};
@@ -53,7 +49,7 @@ impl<T: Tape> Responder for Finder<'_, T> {
     ghost use Rattle.bb_recurrence.specs.RecurrenceKeptBytes.{recurrence_reply_kept};
     ghost use Rattle.bb_recurrence.specs.RecurrenceKeptBytes.{recurrence_reply_of_kept};
     ghost use Rattle.bb_recurrence.specs.RecurrenceKeptBytes.{recurrence_saw_of_kept};
-    ghost use Rattle.bb_recurrence.specs.Tapes.{TapesHaveCells};
+    ghost use Rattle.bb_recurrence.specs.Tapes.{HasMemoryFor};
 
     ghost replies_with = { λ r line reply. IsRecurrenceReply r.limits r.entries line reply };
 
@@ -63,11 +59,10 @@ impl<T: Tape> Responder for Finder<'_, T> {
     ghost cost = { λ r. r.last_cost };
 
     ghost keeps = { λ a b. (b.limits ≡ a.limits) × (b.entries ≡ a.entries)
-        × (b.tapes.ghost_name ≡ a.tapes.ghost_name)
-        × (b.path.ghost_name ≡ a.path.ghost_name) × (depth_of b.path.now ≡ depth_of a.path.now) };
+        × (b.finder.ghost_name ≡ a.finder.ghost_name)
+        × (depth_of b.finder.now.path ≡ depth_of a.finder.now.path) };
 
-    ghost is_ready = { λ r. TapesHaveCells T.view r.limits.cells r.tapes.now
-        × (r.limits.depth ≤ depth_of r.path.now) };
+    ghost is_ready = { λ r. HasMemoryFor T.view r.limits r.finder.now };
 
     ghost GROWS = { T.GROWS };
 
@@ -112,26 +107,11 @@ impl<T: Tape> Responder for Finder<'_, T> {
             }
         };
         let mut meter = Meter::new();
-        let Ok(finding) = find(
-            &self.machine,
-            &verdict,
-            &self.limits,
-            self.tapes,
-            self.path,
-            &mut self.uses,
-            &mut meter,
-        ) else {
+        let (machine, limits) = (&self.machine, &self.limits);
+        let Ok(finding) = self.finder.find(machine, &verdict, limits, &mut meter) else {
             return Err(AllocError);
         };
-        finding_into(
-            &self.machine,
-            line,
-            &finding,
-            &self.uses,
-            self.entries,
-            self.counts,
-            text,
-        );
+        self.finding_into(line, &finding, text);
         self.limits.show_accepted();
         self.summary.clean = self.summary.clean & is_clean(&finding);
         self.summary.peak = self.summary.peak.greatest(meter);
@@ -140,35 +120,35 @@ impl<T: Tape> Responder for Finder<'_, T> {
     }
 }
 
-/// Writes the reply to a verdict on a machine into the empty text, and counts it. The line begins with the
-/// machine's text.
-fn finding_into(
-    machine: &Machine,
-    line: &[u8],
-    finding: &Finding,
-    uses: &LastUses,
-    entries: bool,
-    counts: &RecurrenceCounts,
-    text: &mut ArrayVec<u8, REPLY>,
-)
-    requires line { BeginsWith machine.now line.now }
-    requires known { IsKnown machine.now uses.now finding.now }
-    requires empty { text.old.items ≡ [] }
-    ensures { IsFindingText machine.now entries finding.now text.new.items }
-{
-    match finding {
-        Finding::Recurs(found) => {
-            let quasihalt = uses.quasihalt(machine, found.start);
-            counts.add_recurrence(quasihalt.is_some());
-            recurrence_into(machine, line, found, uses, quasihalt, entries, text);
-        }
-        Finding::Answered(answer) => {
-            counts.add_answer(*answer);
-            append(answer.word(), text);
-        }
-        Finding::NoPair => {
-            counts.add_answer(Answer::Open);
-            append(Answer::Open.word(), text);
+impl<T> Replier<'_, T> {
+    /// Writes the reply to a verdict on the machine read last into the empty text, and counts it. The line
+    /// begins with the machine's text.
+    fn finding_into(&self, line: &[u8], finding: &Finding, text: &mut ArrayVec<u8, REPLY>)
+        requires line { BeginsWith self.now.machine line.now }
+        requires known { IsKnown self.now.machine self.now.finder.now.uses finding.now }
+        requires empty { text.old.items ≡ [] }
+        ensures { IsFindingText self.now.machine self.now.entries finding.now text.new.items }
+    {
+        match finding {
+            Finding::Recurs(recurrence) => {
+                let uses = &self.finder.uses;
+                let quasihalt = uses.quasihalt(&self.machine, recurrence.start);
+                self.counts.add_recurrence(quasihalt.is_some());
+                let reply = Reply {
+                    machine: &self.machine,
+                    recurrence: *recurrence,
+                    uses,
+                };
+                reply.write(line, quasihalt, self.entries, text);
+            }
+            Finding::Answered(answer) => {
+                self.counts.add_answer(*answer);
+                append(answer.word(), text);
+            }
+            Finding::NoPair => {
+                self.counts.add_answer(Answer::Open);
+                append(Answer::Open.word(), text);
+            }
         }
     }
 }
@@ -198,14 +178,12 @@ pub fn run_recurrence<R: Read, W: Write, T: Tape>(
     writer: &mut Watched<W>,
     limits: &Limits,
     entries: bool,
-    tapes: &mut Tapes<T>,
-    path: &mut Path,
+    finder: &mut Finder<T>,
     counts: &RecurrenceCounts,
 ) -> Result<Summary, Fault>
     requires reader { is_marked reader.old ≡ false }
     requires writer { is_marked writer.old ≡ false }
-    requires tapes { TapesHaveCells T.view limits.now.cells tapes.old }
-    requires path { limits.now.depth ≤ depth_of path.old }
+    requires memory { HasMemoryFor T.view limits.now finder.old }
 
     // The result of the run, and the output written.
     ensures ends { RecurrenceEnds limits.now entries
@@ -217,17 +195,15 @@ pub fn run_recurrence<R: Read, W: Write, T: Tape>(
     ensures read { (result ≡ Err Fault.Read) ↔ (is_marked reader.new ≡ true) }
     ensures write { (result ≡ Err Fault.Write) ↔ (is_marked writer.new ≡ true) }
 
-    ensures tapes { TapesHaveCells T.view limits.now.cells tapes.new }
-    ensures path { depth_of path.new ≡ depth_of path.old }
+    ensures tapes { TapesHaveCells T.view limits.now.cells finder.new.tapes }
+    ensures path { depth_of finder.new.path ≡ depth_of finder.old.path }
 {
     limits.show_accepted();
-    let mut finder = Finder {
+    let mut replier = Replier {
         limits: *limits,
         entries,
-        tapes,
-        path,
+        finder,
         machine: Machine::blank(),
-        uses: LastUses::new(),
         summary: Summary {
             clean: true,
             peak: Meter::new(),
@@ -235,6 +211,6 @@ pub fn run_recurrence<R: Read, W: Write, T: Tape>(
         last_cost: 0,
         counts,
     };
-    run(reader, writer, &mut finder)?;
-    Ok(finder.summary)
+    run(reader, writer, &mut replier)?;
+    Ok(replier.summary)
 }

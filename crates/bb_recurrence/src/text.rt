@@ -3,13 +3,11 @@ ghost use Rattle.std.specs.Prelude.{◌≡◌, ℕ, ◌+◌, ◌<◌, ◌≤◌,
 ghost use Rattle.std.specs.Fmt.{signed_decimal};
 ghost use Rattle.arrayvec.specs.ArrayVec.{array_vec_len};
 ghost use Rattle.bb_machine.specs.Machine.{symbols_of, text};
-ghost use Rattle.laws_of_recurrence.specs.Recurrence.{RepeatsExactly};
-ghost use Rattle.laws_of_recurrence.specs.Shift.{IsShift};
 ghost use Rattle.laws_of_recurrence.specs.Uses.{IsQuasihalt};
 ghost use Rattle.bb_recurrence.specs.LastUses.{AreSeenWhole};
 ghost use Rattle.bb_recurrence.specs.Parts.{entries_before, row_before, states_before};
 ghost use Rattle.bb_recurrence.specs.RecurrenceReply.{numbers_text, quasihalt_text, use_text};
-ghost use Rattle.bb_recurrence.specs.Writing.{AppendsUses, BeginsWith, IsNumbersText};
+ghost use Rattle.bb_recurrence.specs.Writing.{AppendsUses, BeginsWith, IsKnownRecurrence, IsNumbersText};
 
 use crate::recurrence::Recurrence;
 use crate::uses::{LastUse, LastUses};
@@ -21,34 +19,81 @@ use itoa::Buffer;
 /// The text of a reply.
 pub(crate) type Text = ArrayVec<u8, REPLY>;
 
-/// Writes a machine and its recurrence into the empty text, with the last use of each entry if `entries`. The
-/// machine's text is the beginning of `line`. The longest has 6,659 bytes.
-pub(crate) fn recurrence_into(
-    machine: &Machine,
-    line: &[u8],
-    found: &Recurrence,
-    uses: &LastUses,
-    quasihalt: Option<u64>,
-    entries: bool,
-    text: &mut Text,
-)
-    requires line { BeginsWith machine.now line.now }
-    requires exact { RepeatsExactly machine.now found.now.start found.now.period }
-    requires shift { IsShift machine.now found.now.start found.now.period found.now.shift }
-    requires seen { AreSeenWhole machine.now found.now.start uses.now }
-    requires quasihalt { MatchOption quasihalt ((steps : ℕ) → IsQuasihalt machine.now steps → ⊥)
-        (λ steps. IsQuasihalt machine.now steps) }
-    requires empty { text.old.items ≡ [] }
-    ensures numbers { IsNumbersText machine.now entries text.new.items }
-    ensures short { array_vec_len text.new ≤ 6659 }
-{
-    append(machine_text(machine, line), text);
-    numbers_into(found, text);
-    states_into(machine, uses, found.start, text);
-    quasihalt_into(quasihalt, text);
-    if entries {
-        append(b" entries", text);
-        entries_into(machine, uses, found.start, text);
+/// A machine and the recurrence of its run, to be written with the last uses.
+#[derive(Clone, Copy)]
+pub(crate) struct Reply<'a> {
+    pub(crate) machine: &'a Machine,
+    pub(crate) recurrence: Recurrence,
+    /// The last uses up to the end of a first period or later.
+    pub(crate) uses: &'a LastUses,
+}
+
+impl Reply<'_> {
+    /// Writes the machine and its recurrence into the empty text, with the last use of each entry if
+    /// `entries`. The machine's text is the beginning of `line`. The longest has 6,659 bytes.
+    pub(crate) fn write(&self, line: &[u8], quasihalt: Option<u64>, entries: bool, text: &mut Text)
+        requires line { BeginsWith self.now.machine.now line.now }
+        requires known { IsKnownRecurrence self.now.machine.now self.now.uses.now self.now.recurrence }
+        requires quasihalt { MatchOption quasihalt
+            ((steps : ℕ) → IsQuasihalt self.now.machine.now steps → ⊥)
+            (λ steps. IsQuasihalt self.now.machine.now steps) }
+        requires empty { text.old.items ≡ [] }
+        ensures numbers { IsNumbersText self.now.machine.now entries text.new.items }
+        ensures short { array_vec_len text.new ≤ 6659 }
+    {
+        append(machine_text(self.machine, line), text);
+        numbers_into(&self.recurrence, text);
+        self.states_into(text);
+        quasihalt_into(quasihalt, text);
+        if entries {
+            append(b" entries", text);
+            self.entries_into(text);
+        }
+    }
+
+    /// Appends the last use of each state.
+    fn states_into(&self, text: &mut Text)
+        requires seen { AreSeenWhole self.now.machine.now self.now.recurrence.start self.now.uses.now }
+        requires room { array_vec_len text.old + 525 ≤ REPLY }
+        ensures uses { AppendsUses self.now.machine.now (states_before (length self.now.machine.now))
+            text.old.items text.new.items }
+        ensures short { array_vec_len text.new ≤ array_vec_len text.old + 525 }
+    {
+        let Reply { machine, uses, .. } = *self;
+        let start = self.recurrence.start;
+        for state in 0..machine.states() {
+            use_into(uses.last_use(machine, state, start), text);
+        }
+    }
+
+    /// Appends the last use of each entry, in the table's order.
+    fn entries_into(&self, text: &mut Text)
+        requires seen { AreSeenWhole self.now.machine.now self.now.recurrence.start self.now.uses.now }
+        requires room { array_vec_len text.old + 5250 ≤ REPLY }
+        ensures uses { AppendsUses self.now.machine.now
+            (entries_before (symbols_of self.now.machine.now) (length self.now.machine.now))
+            text.old.items text.new.items }
+        ensures short { array_vec_len text.new ≤ array_vec_len text.old + 5250 }
+    {
+        for state in 0..self.machine.states() {
+            self.row_into(state, text);
+        }
+    }
+
+    /// Appends the last use of each entry of a state.
+    fn row_into(&self, state: u8, text: &mut Text)
+        requires state { state < length self.now.machine.now }
+        requires seen { AreSeenWhole self.now.machine.now self.now.recurrence.start self.now.uses.now }
+        requires room { array_vec_len text.old + 210 ≤ REPLY }
+        ensures uses { AppendsUses self.now.machine.now (row_before state (symbols_of self.now.machine.now))
+            text.old.items text.new.items }
+        ensures short { array_vec_len text.new ≤ array_vec_len text.old + 210 }
+    {
+        let Reply { machine, uses, .. } = *self;
+        let start = self.recurrence.start;
+        for symbol in 0..machine.symbols() {
+            use_into(uses.last_use_of_entry(machine, state, symbol, start), text);
+        }
     }
 }
 
@@ -96,19 +141,6 @@ fn shift_into(shift: i64, text: &mut Text)
     append(digits.format(shift).as_bytes(), text);
 }
 
-/// Appends the last use of each state.
-fn states_into(machine: &Machine, uses: &LastUses, start: u64, text: &mut Text)
-    requires seen { AreSeenWhole machine.now start uses.now }
-    requires room { array_vec_len text.old + 525 ≤ REPLY }
-    ensures uses { AppendsUses machine.now (states_before (length machine.now))
-        text.old.items text.new.items }
-    ensures short { array_vec_len text.new ≤ array_vec_len text.old + 525 }
-{
-    for state in 0..machine.states() {
-        use_into(uses.last_use(machine, state, start), text);
-    }
-}
-
 /// Appends the number of steps after which the machine quasihalts, if it does.
 fn quasihalt_into(quasihalt: Option<u64>, text: &mut Text)
     requires room { array_vec_len text.old + 32 ≤ REPLY }
@@ -121,33 +153,6 @@ fn quasihalt_into(quasihalt: Option<u64>, text: &mut Text)
             number_into(steps, text);
         }
         None => {}
-    }
-}
-
-/// Appends the last use of each entry, in the table's order.
-fn entries_into(machine: &Machine, uses: &LastUses, start: u64, text: &mut Text)
-    requires seen { AreSeenWhole machine.now start uses.now }
-    requires room { array_vec_len text.old + 5250 ≤ REPLY }
-    ensures uses { AppendsUses machine.now (entries_before (symbols_of machine.now) (length machine.now))
-        text.old.items text.new.items }
-    ensures short { array_vec_len text.new ≤ array_vec_len text.old + 5250 }
-{
-    for state in 0..machine.states() {
-        row_into(machine, uses, start, state, text);
-    }
-}
-
-/// Appends the last use of each entry of a state.
-fn row_into(machine: &Machine, uses: &LastUses, start: u64, state: u8, text: &mut Text)
-    requires state { state < length machine.now }
-    requires seen { AreSeenWhole machine.now start uses.now }
-    requires room { array_vec_len text.old + 210 ≤ REPLY }
-    ensures uses { AppendsUses machine.now (row_before state (symbols_of machine.now))
-        text.old.items text.new.items }
-    ensures short { array_vec_len text.new ≤ array_vec_len text.old + 210 }
-{
-    for symbol in 0..machine.symbols() {
-        use_into(uses.last_use_of_entry(machine, state, symbol, start), text);
     }
 }
 

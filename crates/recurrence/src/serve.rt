@@ -8,7 +8,7 @@ ghost use Rattle.recurrence.specs.Status.{end_status};
 use crate::command::Asked;
 use bb_lines::fault::Fault;
 use bb_lines::watched::Watched;
-use bb_recurrence::{RecurrenceCounts, ring_tapes, run_recurrence};
+use bb_recurrence::{RecurrenceCounts, ring_finder, run_recurrence};
 use bb_run::Summary;
 use std::alloc::Global;
 use std::io::{Read, Write};
@@ -43,14 +43,13 @@ pub fn list_recurrences<R: Read, W: Write>(
     ensures write { (result ≡ Err Fault.Write) ↔ (is_marked writer.new ≡ true) }
 {
     let limits = asked.limits;
-    match ring_tapes(alloc, &limits) {
-        Ok((mut tapes, mut path)) => run_recurrence(
+    match ring_finder(alloc, &limits) {
+        Ok(mut finder) => run_recurrence(
             reader,
             writer,
             &limits,
             asked.entries,
-            &mut tapes,
-            &mut path,
+            &mut finder,
             counts,
         ),
         Err(_) => Err(Fault::Memory),

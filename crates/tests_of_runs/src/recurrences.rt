@@ -5,7 +5,7 @@ use bb_cert::{Answer, Line, read_line};
 use bb_lines::fault::Fault;
 use bb_lines::watched::Watched;
 use bb_machine::Limits;
-use bb_recurrence::{Finding, LastUses, RecurrenceCounts, find, ring_tapes, run_recurrence};
+use bb_recurrence::{Finding, RecurrenceCounts, ring_finder, run_recurrence};
 use bb_run::Summary;
 use bb_sim::Meter;
 use bb_tape::Memory;
@@ -14,15 +14,12 @@ use std::process::Abort;
 
 /// The result for a verdict line, and the steps that it took.
 fn find_in(alloc: Global, limits: &Limits, line: &[u8]) -> Result<(Finding, u64), Memory> {
-    let (mut tapes, mut path) = ring_tapes(alloc, limits)?;
-    let mut uses = LastUses::new();
+    let mut finder = ring_finder(alloc, limits)?;
     let mut meter = Meter::new();
     let Some(Line::Claim(machine, verdict)) = read_line(line) else {
         return Ok((Finding::NoPair, 0));
     };
-    let finding = find(
-        &machine, &verdict, limits, &mut tapes, &mut path, &mut uses, &mut meter,
-    )?;
+    let finding = finder.find(&machine, &verdict, limits, &mut meter)?;
     Ok((finding, meter.steps))
 }
 
@@ -150,7 +147,7 @@ fn replies_to_list(
     counts: &RecurrenceCounts,
 ) -> (Result<Summary, Fault>, Vec<u8>) {
     let limits = Limits::new(100, 64, 30, 1_000).expect(rt, "limits");
-    let (mut tapes, mut path) = ring_tapes(rt.alloc(), &limits).expect(rt, "memory");
+    let mut finder = ring_finder(rt.alloc(), &limits).expect(rt, "memory");
     let mut reader = Watched::new(LIST);
     let mut writer = Watched::new(Vec::new(rt.alloc()));
     let end = run_recurrence(
@@ -158,8 +155,7 @@ fn replies_to_list(
         &mut writer,
         &limits,
         entries,
-        &mut tapes,
-        &mut path,
+        &mut finder,
         counts,
     );
     (end, writer.into_inner())
