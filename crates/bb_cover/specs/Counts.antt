@@ -194,11 +194,12 @@ abbrev pub greatest_of : (Item → ℕ) → List Item → ℕ
 greatest_of f [] = 0
 greatest_of f (item ∷ items) = max (f item) (greatest_of f items)
 
--- the number, counted from 1, of the last item with the machine that is sought; 0 if none has it
+-- a number among later items as one among all; if there is none, 1 for the first item, or 0
 abbrev pub place_or : Bool → ℕ → ℕ
 place_or first zero = cond first 1 0
 place_or first (suc later) = suc (suc later)
 
+-- the number, counted from 1, of the last item with the machine that is sought; 0 if none has it
 abbrev pub place_of : Option (List ℕ) → List Item → ℕ
 place_of sought [] = 0
 place_of sought (item ∷ items) = place_or (is_sought sought item.table) (place_of sought items)

@@ -13,8 +13,7 @@ use bb_sim::Meter;
 use bb_tape::{MapTape, RingTape, Tape};
 use std::process::Abort;
 
-/// The limits, a machine, and the most writes of deciding it, on all tapes together: one for each step, two for
-/// each node.
+/// The limits, a machine, and the most writes of deciding it, on all tapes: one a step, two a node.
 static DECIDED: [(Four, &[u8], u64); 4] = [
     (DEFAULTS, b"0RB---_0LA---", 1_000_004),
     ([3, 65_536, 300, 1_000_000], b"0RB---_0LA---", 17),
@@ -123,8 +122,7 @@ fn a_block_changes_no_more_cells_than_its_steps(rt: HostRuntime) {
     }
 }
 
-/// A claim, its answer, the least and the most steps and the most nodes of checking it, and the most writes
-/// on both tapes.
+/// A claim, its answer, the least and the most steps, the most nodes, and the most writes on both tapes.
 static CHECKED: [(&[u8], &[u8], [u64; 2], u64, u64); 5] = [
     (b"1RB1LB_1LA1RZ halt 5 4", b"bad\n", [0, 5], 0, 5),
     (
