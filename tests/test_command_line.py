@@ -46,6 +46,7 @@ CASES: list[Case] = [
 ]
 
 
+OF_WALKS = "--lines reads machines; --below, --skeleton, --assume and --line are for verdict lines"
 # Words of the programs that read a list of verdicts, the status, and what follows their name on standard error.
 LIST_CASES = [
     ("--steps 1000000000001", 2, "steps out of range"),
@@ -59,6 +60,8 @@ TREE_CASES = [
     ("--cells 1 --depth 2", 2, "depth does not fit in cells"),
     ("--assume FOLDER", 3, "read failed\nFOLDER: Is a directory (os error 21)"),
     ("--assume ASSUMED", 2, "line 3 of the file of --assume isn't MACHINE nonhalt"),
+    ("--lines --skeleton", 2, OF_WALKS),
+    ("--lines --line=0RA0RA", 2, OF_WALKS),
     ("--lines MISSING", 3, "read failed\nMISSING: No such file or directory (os error 2)"),
 ]
 OF_LISTS = [("recurrence", *case) for case in LIST_CASES]

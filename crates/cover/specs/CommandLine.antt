@@ -1,6 +1,6 @@
 -- The request of the program's words, and the reasons for refusing them: this project's own.
 use Rattle.std.specs.Prelude.{◌≡◌, ◌⊎◌, ℕ, Bool, true, List, [], ◌∷◌, Option, Some, None, codes, cond}
-use Rattle.std.specs.Prelude.{option_map}
+use Rattle.std.specs.Prelude.{◌||◌, false, is_some, option_map}
 use Rattle.std.specs.String.{string_bytes}
 use Rattle.clap.specs.Simple.{new_shape}
 use Rattle.clap.specs.Words.{App, Rule, Text, fault_of, first_of, matches_of, new_rule}
@@ -69,6 +69,15 @@ pub record IsAskedBy (words : List Text) (asked : Asked) : Type 0 where
   pub line : IsGivenMachine (first_of (codes "line") (matches_of command_line words)) asked.line
   pub lines : asked.lines ≡ is_given (codes "lines") (matches_of command_line words)
   pub file : option_map string_bytes asked.file ≡ first_of (codes "file") (matches_of command_line words)
+
+-- a machine to begin at, one whose line is sought, shards, or assumed machines: all for lists of verdicts
+abbrev pub is_skeleton : Form → Bool
+is_skeleton Verdicts = false
+is_skeleton Skeleton = true
+
+abbrev pub names_walk : Asked → Bool
+names_walk asked = is_some asked.task.below || is_some asked.line || is_skeleton asked.task.form
+    || is_some asked.assume
 
 -- a text is given, and no machine has it: this is the column of its first error
 abbrev pub IsTextRefused : Option Text → ℕ → Type 0

@@ -8,7 +8,7 @@ ghost use Rattle.bb_machine.specs.Column.{IsColumn};
 ghost use Rattle.bb_machine.specs.declared.limits.TheConstants.{MAX_CELLS};
 ghost use Rattle.bb_command.specs.Command.{IsLimitsStop, is_given, list_bounds};
 ghost use Rattle.cover.specs.CommandLine.{IsAskedBy, IsGivenMachine, IsStopOf, command_line, form_by, text_rule};
-ghost use Rattle.cover.specs.CommandLine.{IsTextRefused, cells_rule};
+ghost use Rattle.cover.specs.CommandLine.{IsTextRefused, cells_rule, names_walk};
 ghost use Rattle.cover.specs.Status.{refusal_status};
 
 use bb_command::Stop;
@@ -33,6 +33,16 @@ pub struct Asked {
     pub lines: bool,
     /// The list's file; standard input if none.
     pub file: Option<String>,
+}
+
+impl Asked {
+    /// Whether an option of a walk is given, for which `--lines` has no use.
+    pub fn names_walk(&self) -> bool
+        ensures { result ≡ names_walk self.now }
+    {
+        let has_first = self.task.below.is_some() || self.line.is_some();
+        has_first || self.task.form == Form::Skeleton || self.assume.is_some()
+    }
 }
 
 /// The reason for doing no work.

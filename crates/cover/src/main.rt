@@ -31,6 +31,7 @@ const PROGRAM: &str = "cover";
 
 fn main(rt: HostRuntime) -> ExitCode {
     let status = match parse_request(&rt) {
+        Ok(asked) if asked.lines && asked.names_walk() => report_unused(&rt),
         Ok(asked) if asked.lines => answer_machines(&rt, &asked),
         Ok(mut asked) => match prepare(&rt, &mut asked) {
             Ok(()) => answer_request(&rt, &asked),
@@ -237,4 +238,14 @@ fn report_refusal(rt: &HostRuntime, refusal: &Refusal) -> u8
         column: refused.column,
     });
     refusal.status()
+}
+
+/// Refuses the options of a walk beside `--lines`, and returns the exit status.
+fn report_unused(rt: &HostRuntime) -> u8
+    ensures { result ≡ 2 }
+{
+    let _ = eprintln!(rt;
+        "cover: --lines reads machines; --below, --skeleton, --assume and --line are for verdict lines"
+    );
+    2
 }
