@@ -4,13 +4,13 @@
 """
 
 import random
-from typing import NamedTuple
+from typing import Iterator, NamedTuple
 
 import pytest
 from support import ListMachines
-from support.machines import CHAMPION, DIGITS, LETTERS, Change, machine, table_of, text_of
+from support.machines import CHAMPION, DIGITS, LETTERS, Change, join_groups, machine, table_of, text_of
 from support.program import LIST_STEPS, Decide, as_lines, run_command
-from support.simulation import simulate
+from support.simulation import find_undefined, simulate
 
 # States and symbols of complete lists.
 SIZES = [(2, 2), (3, 2), (2, 3)]
@@ -93,13 +93,35 @@ def test_lines_of_random_machines_are_listed(
             assert verdict == " ".join(reply.end[:3])
 
 
+def enumerate_levels(states: int, symbols: int, steps: int) -> Iterator[str]:
+    """All machines in tree normal form, in an order of its own: from few entries to many, great entries first."""
+    level = [["---"] * states * symbols]
+    while level:
+        grown = []
+        for entries in level:
+            text = join_groups(entries, symbols)
+            yield text
+            met, defined = find_undefined(text, steps), [entry for entry in entries if entry != "---"]
+            if met is None or len(defined) == len(entries) - 1:
+                continue
+            used_states = 1 + max([0, *(LETTERS.index(entry[2]) for entry in defined)])
+            used_symbols = 1 + max([0, *(DIGITS.index(entry[0]) for entry in defined)])
+            for state in reversed(LETTERS[: min(states, used_states + 1)]):
+                for move in "LR" if defined else "R":
+                    for symbol in reversed(DIGITS[: min(symbols, used_symbols + 1)]):
+                        grown.append([*entries[:met], symbol + move + state, *entries[met + 1 :]])
+        level = grown
+
+
 @pytest.mark.parametrize("states, symbols", SIZES)
-def test_listed_machines_are_their_own_lines(
-    cover: str, list_machines: ListMachines, rng: random.Random, states: int, symbols: int
+def test_lists_in_another_order_are_found_whole(
+    cover: str, list_machines: ListMachines, states: int, symbols: int
 ) -> None:
-    """In any order."""
+    """Each machine of an enumerator of its own is its line, and they are all of the list."""
+    found = list(enumerate_levels(states, symbols, 100))
     listed = list_machines(states, "--symbols", str(symbols), "--steps", "100")
-    for reply in lines_of(cover, rng.sample(listed, len(listed)), 100):
+    assert sorted(found) == sorted(listed) and found != listed
+    for reply in lines_of(cover, found, 100):
         names = Change(False, list(range(states)), list(range(symbols)))
         assert (reply.machine, reply.change) == (reply.line, names)
 
