@@ -1,16 +1,13 @@
 -- Where the walk to a machine's line ends.
-use Rattle.std.proofs.Common.{◌≡◌, ◌≢◌, ℕ, Some, None, length, ap, ap₂, sym, subst, ◌∙◌}
+use Rattle.std.proofs.Common.{◌≡◌, ◌≢◌, ℕ, Some, None, length, ap₂, sym, subst, ◌∙◌}
 use Rattle.bb_machine.specs.declared.entry.Dir.{Dir}
 use Rattle.bb_machine.specs.declared.entry.Entry.{Entry}
 use Rattle.bb_machine.specs.declared.entry.Entry.TheVariants.{Go}
 use Rattle.bb_machine.specs.declared.entry.Next.TheVariants as next
 use Rattle.bb_machine.specs.Limits.{Bounds}
 use Rattle.bb_machine.specs.Machine.{Table, IsMachine, entry_of, symbols_of}
-use Rattle.bb_tape.specs.Content.{cell}
-use Rattle.bb_sim.specs.Configuration.{Configuration}
-use Rattle.bb_sim.specs.Run.{HaltsAt, conf}
+use Rattle.bb_sim.specs.Run.{HaltsAt}
 use Rattle.bb_sim.specs.Span.{Inside}
-use Rattle.bb_sim.proofs.Facts.{halt_is_unique}
 use Rattle.laws_of_verdicts.specs.LineOf.{IsOnWay}
 use Rattle.laws_of_verdicts.specs.UndefinedEntry.{HaltsOnUndefined, HasOtherUndefined}
 use Rattle.laws_of_verdicts.proofs.Facts.{halts_on_undefined, halts_there, own_place, same_place, undefined_named}
