@@ -29,23 +29,21 @@ from measuring import use_library
 from support.clusters import Cluster, changed_package, cluster
 from support.machines import CHAMPION, uniform
 from support.program import as_lines, options
-from support.runs import Case, most_memory, words_of
+from support.runs import QUICK_PASS, Case, most_memory, words_of
 
 PARTS = ("memory", "bars", "threads", "dask", "waiting")
 RANDOM, MEMORY_LINES, TIMES = 200_000, 1_000_000, 20
 # Limits: those of a first pass, and those of a run that looks further.
 ROWS = ((1_000, 1_024, 40, 10_000), (100_000, 4_096, 300, 100_000))
-QUICK_PASS = (50, 64, 3, 10)
 # GNU parallel with blocks of some sizes, of which the best counts.
 PARALLEL = ("GNU parallel, 100k", "GNU parallel, 1M", "GNU parallel, 10M")
 # Processes of workers that wait, and how many threads each has.
 WAITING_PROCESSES, WAITING_THREADS = 4, 250
 # Seconds that each chunk waits, lines of a chunk, and how many chunks there are.
 WAITING = ((0.5, 100, 10_000), (0.5, 1_000, 4_000))
-REPLIES = "    return _make_reply(describe_task(DECIDE"
-WAITS = """    time.sleep(%f)
-    replies = lines.replace(b"\\n", b" undecided steps\\n")
-    return reply_of(describe_task(DECIDE, limits), lines, replies, 1e-6)
+REPLIES = "    return decide_call("
+WAITS = """    __import__("time").sleep(%f)
+    return lines.replace(b"\\n", b" undecided steps\\n")
 """
 
 

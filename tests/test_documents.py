@@ -18,7 +18,7 @@ from support import TOP
 BUILT = re.compile(r"out|\.(?!ci$).*|__pycache__|build|dist|node_modules|.*\.egg-info")
 NO_SOURCE = re.compile(r"\.(md|png|svg|edit)$|/(lines|expected)\.txt$|^(?!crates/).*\btests/")
 # What the documents name that stands elsewhere: in Rust and C, in the kit, in other tools, in run folders.
-ELSEWHERE = """Global get_flag get_one fault_of subcommand_of malloc realloc rattle-kit-13b rattle-kit-13f
+ELSEWHERE = """Global get_flag get_one fault_of subcommand_of malloc realloc rattle-kit-13f
     --anew --minutes --only --allow-holes --fix-imports FoldsTo elim omega refl grind returns-then-steps-self
     returns-then-p-lt0-clause-apart After-widened_side loop-x-init loop-x-preserved --host --memory-limit
     --nanny-port --nthreads --nworkers --worker-port --pipe pass-1 pass-2 host1 CARGO_TARGET_DIR""".split()

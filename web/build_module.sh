@@ -45,13 +45,15 @@ translate() {
 # Compiles and links the module, from intermediate code that web/narrow.py takes as text. The code names a
 # processor that this target lacks; clang says so, and goes on. Unrolled loops make the module an eighth
 # larger, and no faster; so does as much inlining as clang does by itself (its threshold is 250). Vectors for
-# short loops and for loops with tests inside make it 2,400 bytes larger, and no faster.
+# short loops and for loops with tests inside make it 2,400 bytes larger, and no faster. So does decoding an
+# entry of a packed table wherever one is needed (6,600 bytes), so that isn't inlined.
 compile() {
     say 'compiling bb.wasm'
     ln -s "$kit/toolchain/bin/ld.lld" "$room/wasm-ld"
     translate "$code" --target=wasm64-unknown-unknown -S -emit-llvm -Xclang -disable-llvm-passes \
         -o "$room/wide.ll"
     python3 "$web/narrow.py" "$room/wide.ll" "$room/narrow.ll"
+    sed -i '/^define .*"bb_machine::packed::PackedTable::entry_at"/s/ #[0-9]* {$/ noinline&/' "$room/narrow.ll"
     translate "$room/narrow.ll" --target=wasm32-unknown-unknown -msimd128 -mbulk-memory \
         -fno-unroll-loops -mllvm -inline-threshold=200 -mllvm -enable-if-conversion=false \
         -mllvm -vectorizer-min-trip-count=100 -c -o "$room/module.o"

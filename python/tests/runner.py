@@ -5,15 +5,18 @@ from __future__ import annotations
 import contextlib
 import io
 import pathlib
+import re
+import subprocess
+import sys
 import unittest.mock
 from concurrent.futures import Executor, Future
-from typing import Any, Callable, Sequence
+from typing import Any, Callable, Iterator, Sequence
 
 import budlarem
+import pytest
 from budlarem import Limits, commands
 from budlarem.counts import KINDS as KINDS_OF_VERDICTS, VerdictCounts
-from budlarem.runner import backends, chunks, folder, input, pass_folder, passes, progress
-from budlarem.runner.backends import PoolBackend as PoolBackend
+from budlarem.runner import backends, chunks, folder, input, pass_folder, passes, progress, replies
 
 from support.program import decide_in_passes
 
@@ -34,15 +37,29 @@ def expected_verdicts(given: bytes, limits: Sequence[Limits] = PASSES) -> bytes:
     return decide_in_passes(lambda *asked: b"".join(budlarem.decide_bytes(*asked)), given, limits)
 
 
-def reseal(reply: chunks.ChunkReply, written: bytes) -> chunks.ChunkReply:
+def reseal(reply: replies.Reply, written: bytes) -> replies.Reply:
     """A reply with other bytes, and the digest of these."""
-    return (written, *reply[1:7], chunks.digest_of(written))
+    return (written, *reply[1:7], replies.digest_of(written))
+
+
+class PoolBackend(backends.Backend):
+    """The workers of an executor: each has a request, and as many requests wait."""
+
+    def __init__(self, executor: Any, workers: int = 2) -> None:
+        self._executor, self._workers = executor, workers
+
+    def width(self) -> int:
+        return 2 * self._workers
+
+    def submit(self, request: replies.Request) -> Future[Any]:
+        future: Future[Any] = self._executor.submit(replies.reply_to, *request)
+        return future
 
 
 class Answering(Executor):
     """An executor whose answers a function changes, given the reply and how many came before."""
 
-    def __init__(self, change: Callable[[chunks.ChunkReply, int], Any] = lambda reply, before: reply) -> None:
+    def __init__(self, change: Callable[[replies.Reply, int], Any] = lambda reply, before: reply) -> None:
         self.change, self.count = change, 0
 
     def submit(self, function: Any, /, *given: Any, **named: Any) -> Any:
@@ -58,7 +75,7 @@ class Answering(Executor):
 def act(action: Callable[[], object], at: int | None = None) -> Answering:
     """An executor that acts before each reply, or before the reply with index `at`."""
 
-    def change(reply: chunks.ChunkReply, before: int) -> chunks.ChunkReply:
+    def change(reply: replies.Reply, before: int) -> replies.Reply:
         if at in (None, before):
             action()
         return reply
@@ -117,12 +134,25 @@ class RunCase(contextlib.ExitStack):
         """A run, by an executor or by two threads."""
         backend: backends.Backend = backends.ThreadBackend(2)
         if executor is not None:
-            backend = PoolBackend(executor, 2)
+            backend = PoolBackend(executor)
         with contextlib.closing(input.ListFile(path or str(self.list))) as listed:
             with contextlib.closing(folder.Folder(str(self.out))) as opened:
-                how = (most, check, here, keep, listed.require_unchanged)
-                options = passes.RunOptions(backend, chunks.identity(), self.progress, listed.name, *how)
+                checked = folder.CHECK_HERE if here else folder.CHECK if check else ""
+                how = (most, checked, keep, listed.require_unchanged)
+                options = passes.RunOptions(backend, replies.identity(), self.progress, listed.name, *how)
                 return passes.run(opened, listed, limits, options)
+
+    def require_verdicts(
+        self, executor: Any = None, limits: Sequence[Limits] = PASSES, **how: Any
+    ) -> pass_folder.Outcome:
+        """A run to its end, with the verdicts of one process for each pass."""
+        outcome = self.run_over(executor, limits, **how)
+        assert self.verdicts() == expected_verdicts(self.list.read_bytes(), limits), (limits, how)
+        return outcome
+
+    def require_error(self, error: type[Exception], text: str, executor: Any = None, **how: Any) -> None:
+        with pytest.raises(error, match=text):
+            self.run_over(executor, **how)
 
     def call(self, *words: str) -> tuple[int, str]:
         """A run by the command; its status, and what it writes to standard error."""
@@ -138,19 +168,20 @@ class RunCase(contextlib.ExitStack):
             assert config is not None
             found = top.open_pass(config, number)
         self.callback(found.close)
-        names = [path.name for path in (self.out / ("pass-%d" % number)).iterdir()]
-        for name in sorted(names, key=lambda name: int(name.split("-")[0])):
-            record = found.read_record(int(name.split("-")[0]) - 1)
-            assert record is not None and record.name == name
+        for record in self._records(found):
             found.add(record)
         return found
 
+    def _records(self, found: pass_folder.PassFolder) -> Iterator[pass_folder.Record]:
+        names = [path.name for path in (self.out / ("pass-%d" % found.number)).iterdir()]
+        for first, name in sorted((int(name.split("-")[0]) - 1, name) for name in names):
+            stored = found.read(first)
+            assert stored is not None and stored[0].name == name
+            yield stored[0]
+
     def records(self, number: int = 1) -> list[pass_folder.Record]:
         """What is stored of the chunks of a pass."""
-        found = self.open_pass(number)
-        names = [path.name for path in (self.out / ("pass-%d" % number)).iterdir()]
-        firsts = sorted(int(name.split("-")[0]) - 1 for name in names)
-        return list(filter(None, map(found.read_record, firsts)))
+        return list(self._records(self.open_pass(number)))
 
     def chunk(self, number: int = 1) -> pathlib.Path:
         """The file of the longest chunk of a pass."""
@@ -161,8 +192,19 @@ def call_command(*words: str) -> tuple[int, str]:
     """The status of a command of the package in this process, and what it writes to standard error."""
     printed = io.StringIO()
     with contextlib.redirect_stderr(printed), contextlib.redirect_stdout(io.StringIO()):
-        with unittest.mock.patch("budlarem.commands.run.install_signal_handlers"):
+        with unittest.mock.patch("budlarem.commands.run.end_at_signals"):
             return commands.main(list(words)), printed.getvalue()
+
+
+def run_budlarem(
+    *words: object, status: int | None = 0, sentence: str = "", **how: Any
+) -> "subprocess.CompletedProcess[str]":
+    """A command of the package as a process: it ends with this status, if one is given, and a text of this form on
+    standard error."""
+    command = [sys.executable, "-m", "budlarem", *map(str, words)]
+    done = subprocess.run(command, capture_output=True, text=True, **how)
+    assert status in (done.returncode, None) and re.search(sentence, done.stderr), done.stderr
+    return done
 
 
 def counts_of(verdicts: bytes) -> dict[str, int]:

@@ -92,6 +92,11 @@ def run_command(
     return CommandResult(done.returncode, done.stdout, done.stderr)
 
 
+def run_package(*words: str, given: bytes = b"") -> CommandResult:
+    """Runs the command of the package over these bytes."""
+    return run_command([sys.executable, "-m", "budlarem", *words], given)
+
+
 def write_script(path: pathlib.Path, text: str, first: str = "#!/bin/sh") -> None:
     """Write a script, of the shell by default, in place of the file or link that is there."""
     path.unlink(missing_ok=True)
@@ -190,6 +195,14 @@ def processor_time() -> float:
     """The processor time of all commands that have ended so far, in seconds."""
     used = resource.getrusage(resource.RUSAGE_CHILDREN)
     return used.ru_utime + used.ru_stime
+
+
+def peak_memory(process: subprocess.Popen[Any]) -> int:
+    """Wait for a process; return the most memory that it took, in KiB, or 0 if it failed."""
+    with process:
+        _, status, used = os.wait4(process.pid, 0)
+        process.returncode = os.waitstatus_to_exitcode(status)
+    return int(used.ru_maxrss) if process.returncode == 0 else 0
 
 
 def least_time(command: Sequence[str], given: bytes) -> float:

@@ -20,9 +20,12 @@ import pytest
 
 from . import restore_signals
 from .machines import CHAMPION, mixed_machines
-from .program import LIMITS, MAX_CELLS, MAX_STEPS, as_lines, decide_in_passes, options, run_command
+from .program import LIMITS, MAX_CELLS, MAX_STEPS, as_lines, decide_in_passes, options, peak_memory
+from .program import run_command
 
 PASSES = ((300, 64, 10, 100), (20_000, 1_024, 40, 10_000))
+# Limits at which a line costs nothing to speak of, and words by which a list takes a second or more.
+QUICK_PASS, SLOWLY = (50, 64, 3, 10), ["--threads", "1", "--chunk", "20"]
 # It grows as the root of its steps, and no decider finds anything.
 LONG_MACHINE = b"0RB1LD_0RC1RD_0RD---_1LA0RB\n"
 Process = subprocess.Popen[bytes]
@@ -181,11 +184,9 @@ def most_memory(case: Case, count: int, limits: Sequence[int]) -> int:
     with open(case.list, "wb") as file:
         for _ in range(count // 1_000):
             file.write(as_lines([CHAMPION]) * 1_000)
-    with case.start(words=["--pass", words_of(limits)] * 2) as process:
-        _, status, used = os.wait4(process.pid, 0)
-        process.returncode = os.waitstatus_to_exitcode(status)
+    most = peak_memory(case.start(words=["--pass", words_of(limits)] * 2))
     case.clear()
-    return int(used.ru_maxrss) if process.returncode == 0 else 0
+    return most
 
 
 def is_at_work(pid: int) -> bool:

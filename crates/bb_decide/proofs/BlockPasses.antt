@@ -21,8 +21,8 @@ use Rattle.bb_sim.proofs.Facts.{inside_here}
 use Rattle.bb_registers.specs.Blocks.{IsBlockRun}
 use Rattle.bb_registers.specs.declared.blocks.Barrier.{Barrier}
 use Rattle.bb_registers.specs.declared.blocks.BlockRun.{BlockRun}
-use Rattle.bb_registers.specs.declared.table.RegisterTable.{RegisterTable}
-use Rattle.bb_registers.specs.Packed.{IsTableOf}
+use Rattle.bb_machine.specs.declared.packed.PackedTable.{PackedTable}
+use Rattle.bb_machine.specs.Packed.{IsTableOf}
 use Rattle.bb_registers.proofs.Facts.{steps_in_block}
 use Rattle.bb_cert.specs.declared.records.Records.{Records}
 use Rattle.bb_cert.specs.declared.verdict.Side.{Side}
@@ -238,7 +238,7 @@ module _ {table : Table} {bounds : Bounds} {key : ℤ → ℕ} {from : ℤ} {tap
 
 -- steps inside the block
 pub sprint_in_block : {table : Table} {bounds : Bounds} {key : ℤ → ℕ} {from : ℤ} {tape right left : TapeView}
-    {begun : SinglePass} {packed : RegisterTable} {barrier : Barrier} {old new : Sprint} → IsMachine table
+    {begun : SinglePass} {packed : PackedTable} {barrier : Barrier} {old new : Sprint} → IsMachine table
     → IsTableOf table packed → IsBarrier bounds from begun.fingerprints barrier
     → IsBlockPass table bounds key from tape right left begun old → SprintsTo packed barrier old new
     → IsBlockPass table bounds key from tape right left begun new
@@ -250,7 +250,7 @@ sprint_in_block machine is_table is_barrier begins (GoesOn middle next so_far on
     step.before step.apart on.least on.greatest
 
 -- make no fewer steps
-pub sprint_more : {packed : RegisterTable} {barrier : Barrier} {old new : Sprint} → SprintsTo packed barrier old new
+pub sprint_more : {packed : PackedTable} {barrier : Barrier} {old new : Sprint} → SprintsTo packed barrier old new
     → old.run.steps ≤ new.run.steps
 sprint_more Stays = omega arith
 sprint_more (GoesOn middle next so_far on) = omega (arith, sprint_more so_far, on.step.steps)

@@ -34,8 +34,8 @@ use Rattle.bb_decide.proofs.SoFar.{none_earlier, none_so_far}
 use Rattle.bb_decide.proofs.Translations as records
 use Rattle.bb_registers.specs.declared.blocks.Barrier.{Barrier}
 use Rattle.bb_registers.specs.declared.run.RegisterRun.{RegisterRun}
-use Rattle.bb_registers.specs.declared.table.RegisterTable.{RegisterTable}
-use Rattle.bb_registers.specs.Packed.{IsTableOf}
+use Rattle.bb_machine.specs.declared.packed.PackedTable.{PackedTable}
+use Rattle.bb_machine.specs.Packed.{IsTableOf}
 use Rattle.bb_registers.specs.Registers.{EndsWith, ContinuesTo, IsRegisterRun, IsSameConfiguration, MatchesWindow}
 use Rattle.bb_registers.proofs.Facts.{at_bit, bit_of}
 use Rattle.bb_registers.proofs.Facts.{block_of, by_bit, steps_in_window, with_block}
@@ -464,7 +464,7 @@ module _ {table : Table} {bounds : Bounds} {run new : RegisterRun} {kept : KeptR
 
 -- ---- steps in the window, before the barrier of what is kept
 module _ {table : Table} {bounds : Bounds} {run : RegisterRun} {kept : KeptRun} {right left : RegisterRecords}
-    {packed : RegisterTable} {barrier : Barrier} (machine : IsMachine table) (is_table : IsTableOf table packed)
+    {packed : PackedTable} {barrier : Barrier} (machine : IsMachine table) (is_table : IsTableOf table packed)
     (begins : IsPassIn table bounds run kept right left) (window : barrier.window ≡ run.window)
     (few : barrier.to ≤ bounds.steps) (before : barrier.to ≤ kept.before_next)
     (head : barrier.head ≡ kept.run.registers.head) (entry : barrier.entry ≡ kept.run.registers.entry % 64) where

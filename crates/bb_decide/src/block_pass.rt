@@ -17,9 +17,9 @@ use crate::keys::FingerprintKeys;
 use crate::register_records::position_of_bit;
 use crate::single_pass::{Fingerprints, SinglePass};
 use crate::sprint::Sprint;
-use bb_machine::{Limits, Machine};
+use bb_machine::{Limits, Machine, PackedTable};
 use bb_registers::blocks::block_start;
-use bb_registers::{Barrier, BlockRun, RegisterTable, fits_registers};
+use bb_registers::{Barrier, BlockRun};
 use bb_sim::Runner;
 use bb_tape::Tape;
 
@@ -104,23 +104,23 @@ fn fingerprint_of_block<K: FingerprintKeys>(
 }
 
 /// The table of a machine that fits the registers, for a tape that doesn't grow.
-pub(crate) fn block_table<T: Tape>(machine: &Machine, _tape: &T) -> Option<RegisterTable>
+pub(crate) fn block_table<T: Tape>(machine: &Machine, _tape: &T) -> Option<PackedTable>
     ensures { IfSome result (IsBlockTable T.GROWS machine.now) }
 {
     if T::GROWS {
         return None;
     }
-    if !fits_registers(machine) {
+    if !machine.is_small() {
         return None;
     }
-    Some(RegisterTable::new(machine))
+    Some(machine.packed())
 }
 
 /// The single-pass run after steps in a block around the head.
 #[inline(never)]
 pub(crate) fn pass_block<T: Tape, K: FingerprintKeys>(
     machine: &Machine,
-    table: &RegisterTable,
+    table: &PackedTable,
     limits: &Limits,
     keys: &K,
     begun: SinglePass,
@@ -169,7 +169,7 @@ pub(crate) fn pass_block<T: Tape, K: FingerprintKeys>(
 
 /// Where a block begins that has so many cells before the head, if there is a table for it.
 #[inline(always)]
-pub(crate) fn block_for(table: &Option<RegisterTable>, runner: &Runner, before: i64) -> Option<i64>
+pub(crate) fn block_for(table: &Option<PackedTable>, runner: &Runner, before: i64) -> Option<i64>
     requires low { neg_ℤ (pos MAX_CELLS) ≤ℤ position_of runner.now }
     requires high { position_of runner.now ≤ℤ pos MAX_CELLS }
     requires some { pos 0 ≤ℤ before }

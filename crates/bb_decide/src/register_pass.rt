@@ -2,15 +2,15 @@
 //! at two agreeing records, at a repeated configuration, or where the run leaves the 64 cells.
 ghost use Rattle.std.specs.Prelude.{◌≡◌, ◌≤◌, ◌*◌, ◌<◌, ◌^◌, length};
 ghost use Rattle.bb_machine.specs.Machine.{symbols_of};
-ghost use Rattle.bb_registers.specs.Packed.{IsTableOf};
+ghost use Rattle.bb_machine.specs.Packed.{IsTableOf};
 ghost use Rattle.bb_registers.specs.Registers.{IsRegisterRun};
 ghost use Rattle.bb_decide.specs.inside.RegisterPass.{AdvancesPass, EndsRegisterPass, IsInRegisterPass, KeepsRunInTurn};
 
 use crate::register_records::RegisterRecords;
 use crate::sprint::Sprint;
 use bb_cert::{Side, Verdict};
-use bb_machine::{Limits, Machine};
-use bb_registers::{Barrier, BlockRun, RegisterMove, RegisterRun, RegisterTable};
+use bb_machine::{Limits, Machine, PackedTable};
+use bb_registers::{Barrier, BlockRun, RegisterMove, RegisterRun};
 use bb_sim::Outcome;
 
 /// How the run ends.
@@ -84,7 +84,7 @@ impl RegisterPass {
     /// Makes steps as long as they stay in the window, aren't kept, are within the limit and don't come to the
     /// kept head and state.
     #[inline(always)]
-    fn sprint(&mut self, machine: &Machine, table: &RegisterTable, limits: &Limits)
+    fn sprint(&mut self, machine: &Machine, table: &PackedTable, limits: &Limits)
         requires symbols { symbols_of machine.now ≡ 2 }
         requires table { IsTableOf machine.now table.now }
         requires pass { IsInRegisterPass machine.now limits.now self.old }
@@ -118,7 +118,7 @@ impl RegisterPass {
     fn advance(
         &mut self,
         machine: &Machine,
-        table: &RegisterTable,
+        table: &PackedTable,
         limits: &Limits,
     ) -> Option<RegisterResult>
         requires symbols { symbols_of machine.now ≡ 2 }
@@ -166,7 +166,7 @@ pub(crate) fn run_register_pass(machine: &Machine, limits: &Limits) -> RegisterE
     ensures run { IsRegisterRun machine.now limits.now result.pass.run }
     ensures ends { EndsRegisterPass machine.now limits.now result.pass result.result }
 {
-    let table = RegisterTable::new(machine);
+    let table = machine.packed();
     let limits = *limits;
     let mut pass = RegisterPass::start(machine, &limits);
     loop {

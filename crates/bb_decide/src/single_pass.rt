@@ -18,9 +18,8 @@ use crate::register_pass::{RegisterPass, RegisterResult, run_register_pass};
 use crate::search_result::{SearchResult, count_run, outcome_of};
 use bb_cert::Side;
 use bb_cert::records::{Records, widened_side};
-use bb_machine::{Limits, Machine};
+use bb_machine::{Limits, Machine, PackedTable};
 use bb_registers::blocks::cells_before;
-use bb_registers::{RegisterTable, fits_registers};
 use bb_sim::{Meter, Moved, Runner};
 use bb_tape::{Memory, Tape};
 
@@ -130,7 +129,7 @@ pub fn run_single_pass<T: Tape, K: FingerprintKeys>(
     ensures { RunsSinglePass T.GROWS T.view machine.now limits.now (K.key_of keys.now) bench.old bench.new
         meter.old meter.new result }
 {
-    if !fits_registers(machine) {
+    if !machine.is_small() {
         let Ok(search_result) = run_on_bench(machine, limits, keys, bench, meter) else {
             return Err(Memory);
         };
@@ -254,7 +253,7 @@ fn continue_single_pass<T: Tape, K: FingerprintKeys>(
 /// blocks.
 #[inline(always)]
 fn continue_with<T: Tape, K: FingerprintKeys>(
-    table: Option<RegisterTable>,
+    table: Option<PackedTable>,
     machine: &Machine,
     limits: &Limits,
     keys: &K,
@@ -286,7 +285,7 @@ fn run_single_pass_inline<T: Tape, K: FingerprintKeys>(
     limits: &Limits,
     keys: &K,
     begun: SinglePass,
-    table: Option<RegisterTable>,
+    table: Option<PackedTable>,
     bench: &mut Bench<T>,
     meter: &mut Meter,
 ) -> Result<Option<SearchResult>, Memory>

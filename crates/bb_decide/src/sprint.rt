@@ -1,7 +1,8 @@
 //! Steps in registers that widen no window, keep nothing and find nothing.
 ghost use Rattle.bb_decide.specs.inside.Sprints.{SprintsTo};
 
-use bb_registers::{Barrier, BlockRun, RegisterTable};
+use bb_machine::PackedTable;
+use bb_registers::{Barrier, BlockRun};
 
 /// A run within 64 cells, and the lowest and the highest bit of its head so far.
 #[derive(Clone, Copy, Debug)]
@@ -17,7 +18,7 @@ impl Sprint {
     #[inline(always)]
     pub(crate) fn go_on<const SELECTS: bool>(
         &self,
-        table: &RegisterTable,
+        table: &PackedTable,
         barrier: &Barrier,
     ) -> Sprint
         ensures { SprintsTo table.now barrier.now self.now result }

@@ -9,6 +9,9 @@ pub mod Entries
 pub mod Prefixes
 pub mod LawLemmas
 pub mod Filled
+pub mod Packing
+pub mod Unpacking
+pub mod Stored
 pub mod Checked
 pub mod Lanes
 pub mod Places

@@ -8,7 +8,7 @@ use Rattle.bb_machine.specs.declared.entry.Next.{Next}
 use Rattle.bb_machine.specs.declared.entry.Next.TheVariants.{State, Halt}
 use Rattle.bb_machine.specs.declared.entry.Entry.{Entry}
 use Rattle.bb_machine.specs.declared.entry.Entry.TheVariants.{Undefined, Go}
-use Rattle.bb_machine.specs.declared.machine.Step.{Step}
+use Rattle.bb_machine.specs.declared.entry.Step.{Step}
 
 -- `L` or `R`
 abbrev pub dir_letter : Dir → ℕ

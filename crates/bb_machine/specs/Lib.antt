@@ -1,6 +1,7 @@
 pub mod inside
 pub mod Entry
 pub mod Machine
+pub mod Packed
 pub mod Rows
 pub mod Column
 pub mod Limits

@@ -28,6 +28,17 @@ pub enum Entry {
     Go { write: u8, dir: Dir, next: Next },
 }
 
+/// A transition to a state: the symbol to write, the offset of the move, -1 or 1, and the state.
+#[derive(Clone, Copy, Debug, PartialEq, Eq)]
+pub struct Step {
+    /// The symbol to write.
+    pub write: u8,
+    /// How far the head moves: 1 or -1.
+    pub offset: i8,
+    /// The next state, from 0 for A.
+    pub state: u8,
+}
+
 impl Dir {
     ghost use Rattle.std.specs.Prelude.{◌≡◌, ◌≢◌, ◌↔◌, IsTrue, MatchOption};
     ghost use Rattle.bb_machine.specs.declared.entry.Dir.{Dir};

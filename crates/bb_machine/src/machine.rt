@@ -1,12 +1,13 @@
 //! A machine: its table of entries, and its text, one line.
-ghost use Rattle.std.specs.Prelude.{◌≡◌, ◌+◌, ◌≤◌, ◌<◌, List, ◌++◌, length, codes, IfOk, IfErr, Ok};
+ghost use Rattle.std.specs.Prelude.{◌≡◌, ◌+◌, ◌≤◌, ◌<◌, ◌↔◌, List, ◌++◌, length, codes, IfOk, IfErr, IsTrue, Ok};
 ghost use Rattle.std.specs.Int.RustNames.{unsigned_abs};
 ghost use Rattle.arrayvec.specs.ArrayVec.{array_vec_len};
 
 mod reader;
 mod writer;
 
-use crate::entry::{Dir, Entry, Next};
+use crate::entry::{Dir, Entry, Next, Step};
+use crate::packed::{PackedTable, is_small_table};
 use arrayvec::ArrayVec;
 use std::marker::Model;
 use thiserror::Error;
@@ -131,21 +132,11 @@ impl Slot {
     }
 }
 
-/// A transition to a state: the symbol to write, the offset of the move, -1 or 1, and the state.
-#[derive(Clone, Copy, Debug, PartialEq, Eq)]
-pub struct Step {
-    /// The symbol to write.
-    pub write: u8,
-    /// How far the head moves: 1 or -1.
-    pub offset: i8,
-    /// The next state, from 0 for A.
-    pub state: u8,
-}
-
-/// A Turing machine. Its table is an array, each row at a multiple of `STRIDE`.
+/// A Turing machine. A small table is two numbers; another is an array, each row at a multiple of `STRIDE`.
 #[derive(Drop)]
 pub struct Machine {
     slots: [Slot; SLOTS],
+    packed: PackedTable,
     state_count: u8,
     symbol_count: u8,
 }
@@ -153,14 +144,14 @@ pub struct Machine {
 impl Model for Machine {
     ghost use Rattle.std.specs.Prelude.{List};
     ghost use Rattle.bb_machine.specs.declared.entry.Entry.{Entry};
-    ghost use Rattle.bb_machine.specs.Rows.{table_in, IsTable};
+    ghost use Rattle.bb_machine.specs.Rows.{table_of, IsStored};
 
     ghost Value = { List (List Entry) };
 
-    ghost view = { λ m. table_in m.state_count m.symbol_count m.slots };
+    ghost view = { λ m. table_of m.state_count m.symbol_count m.packed m.slots };
 
-    ghost invariant = { λ m. IsTable m.state_count m.symbol_count
-        (table_in m.state_count m.symbol_count m.slots) };
+    ghost invariant = { λ m. IsStored m.state_count m.symbol_count m.packed
+        (table_of m.state_count m.symbol_count m.packed m.slots) };
 }
 
 impl Machine {
@@ -168,6 +159,7 @@ impl Machine {
     ghost use Rattle.bb_machine.specs.Entry.{IsEntryOf, step_of};
     ghost use Rattle.bb_machine.specs.Machine.{Table, IsMachine, symbols_of, entry_of, text};
     ghost use Rattle.bb_machine.specs.Column.{IsColumn};
+    ghost use Rattle.bb_machine.specs.Packed.{IsTableOf};
 
     /// The machine of one state and two symbols with no defined entry, `------`.
     pub fn blank() -> Machine
@@ -175,6 +167,7 @@ impl Machine {
     {
         Machine {
             slots: [Slot::undefined(); SLOTS],
+            packed: PackedTable::blank(),
             state_count: 1,
             symbol_count: 2,
         }
@@ -219,6 +212,9 @@ impl Machine {
         ensures named { IsEntryOf (length self.now) (symbols_of self.now) result }
         ensures machine { IsMachine self.now }
     {
+        if is_small_table(self.state_count, self.symbol_count) {
+            return self.packed.entry_at(state, symbol);
+        }
         self.slots[state as usize * STRIDE + symbol as usize].entry()
     }
 
@@ -231,7 +227,28 @@ impl Machine {
         ensures named { IsEntryOf (length self.now) (symbols_of self.now) (entry_of self.now state symbol) }
         ensures machine { IsMachine self.now }
     {
+        if is_small_table(self.state_count, self.symbol_count) {
+            return self.packed.step_at(state, symbol);
+        }
         self.slots[state as usize * STRIDE + symbol as usize].step()
+    }
+
+    /// Whether the table is small: two symbols and at most seven states.
+    #[inline(always)]
+    pub fn is_small(&self) -> bool
+        ensures { IsTrue result ↔ ((symbols_of self.now ≡ 2) × (length self.now ≤ 7)) }
+    {
+        is_small_table(self.state_count, self.symbol_count)
+    }
+
+    /// The small table, as it is stored.
+    #[inline(always)]
+    pub fn packed(&self) -> PackedTable
+        requires symbols { symbols_of self.now ≡ 2 }
+        requires states { length self.now ≤ 7 }
+        ensures { IsTableOf self.now result }
+    {
+        self.packed
     }
 
     /// States that the table is a machine's, for proofs. It does nothing at run time.

@@ -26,7 +26,7 @@ use Rattle.bb_sim.proofs.Facts.{cells_between-is, halts_in_Z}
 use Rattle.bb_sim.proofs.Facts.{cells_last, halted_end, halts_last, inside_here, no_halt_inside, steps_last, wide_at_end}
 use Rattle.bb_sim.proofs.Facts.{Stepped, fits_Z, halts_undefined, into_Z, made, moves_on}
 use Rattle.bb_registers.specs.declared.run.RegisterRun.{RegisterRun}
-use Rattle.bb_registers.specs.Packed.{IsPackedEntry}
+use Rattle.bb_machine.specs.Packed.{IsPackedEntry}
 use Rattle.bb_registers.specs.Registers.{EndsWith, IsRegisterRun, flipped_bits, last_step}
 use Rattle.bb_registers.proofs.Bits.{score-bits}
 use Rattle.bb_registers.proofs.Entries.{GoesToZ, applies, content_written, is_undefined, symbol_at}
@@ -87,7 +87,7 @@ module _ {table : Table} {bounds : Bounds} {run : RegisterRun} (known : IsRegist
   -- at an entry that isn't defined
   pub ends_undefined : (f ones_are : ℕ)
       → IsPackedEntry f (symbol_at known.runner known.view) (applies table known.runner known.view)
-      → bit_at f 8 ≡ 1 → (bit_at f 7 ≡ 1 → ⊥) → run.registers.bits < 2 ^ 64 → ones_are ≡ ones run.registers.bits
+      → bit_at f 8 ≡ 1 → (bit_at f 0 ≡ 1 → ⊥) → run.registers.bits < 2 ^ 64 → ones_are ≡ ones run.registers.bits
       → EndsWith known (outcomes.Halt run.steps ones_are)
   ends_undefined f ones_are packed stops apart fits counted =
       let halts = halts_undefined table known.runner known.view known.stands (is_undefined f _ _ packed stops apart) in

@@ -22,9 +22,9 @@ use Rattle.bb_sim.specs.Configuration.{beside, entry_at}
 use Rattle.bb_sim.specs.Runner.{position_of, state_of}
 use Rattle.bb_registers.specs.declared.registers.Registers.{Registers}
 use Rattle.bb_registers.specs.declared.run.RegisterRun.{RegisterRun}
-use Rattle.bb_registers.specs.declared.table.RegisterTable.{RegisterTable}
+use Rattle.bb_machine.specs.declared.packed.PackedTable.{PackedTable}
 use Rattle.bb_registers.specs.BitCells.{IsInWord, bits_content}
-use Rattle.bb_registers.specs.Packed.{ArePackedFrom, IsPackedEntry, IsTableOf, right_bit}
+use Rattle.bb_machine.specs.Packed.{ArePackedFrom, IsPackedEntry, IsTableOf, right_bit}
 use Rattle.bb_registers.specs.Registers.{IsRegisterRun, StepsTo, flipped_bits, moved_head}
 use Rattle.bb_registers.proofs.Bits.{at_bit, bits_changed, cell-place}
 use Rattle.bb_registers.proofs.OneBit.{bit_clear, bit_set}
@@ -59,16 +59,16 @@ pub record GoesToZ (f symbol : ℕ) (e : Entry) : Type 0 where
   pub is : Go write dir Halt ≡ e
   pub writes : write ≡ (symbol + bit_at f 6) % 2
 
-pub goes_to_Z : (f symbol : ℕ) (e : Entry) → IsPackedEntry f symbol e → bit_at f 8 ≡ 1 → bit_at f 7 ≡ 1
+pub goes_to_Z : (f symbol : ℕ) (e : Entry) → IsPackedEntry f symbol e → bit_at f 8 ≡ 1 → bit_at f 0 ≡ 1
     → GoesToZ f symbol e
 goes_to_Z f symbol Undefined packed stops halts = absurd (omega (arith, packed.1, halts))
 goes_to_Z f symbol (Go write dir Halt) packed stops halts = record { write = write; dir = dir; is = refl; writes = packed.2 }
 goes_to_Z f symbol (Go write dir (State state)) packed stops halts = absurd (omega (arith, packed.0, stops))
 
-pub is_undefined : (f symbol : ℕ) (e : Entry) → IsPackedEntry f symbol e → bit_at f 8 ≡ 1 → (bit_at f 7 ≡ 1 → ⊥)
+pub is_undefined : (f symbol : ℕ) (e : Entry) → IsPackedEntry f symbol e → bit_at f 8 ≡ 1 → (bit_at f 0 ≡ 1 → ⊥)
     → Undefined ≡ e
 is_undefined f symbol Undefined packed stops apart = refl
-is_undefined f symbol (Go write dir Halt) packed stops apart = absurd (apart packed.1)
+is_undefined f symbol (Go write dir Halt) packed stops apart = absurd (apart packed.3)
 is_undefined f symbol (Go write dir (State state)) packed stops apart = absurd (omega (arith, packed.0, stops))
 
 pub flipped_same : (bits head place flip : ℕ) → head ≡ 2 ^ place → flip < 2
@@ -140,7 +140,7 @@ packed_at table symbol n q f s all below shift is =
     rw (is, shift) there
 
 -- the head after a step
-module _ {packed : RegisterTable} {old new : Registers} (by : StepsTo packed old new) {symbol : ℕ} {e : Entry}
+module _ {packed : PackedTable} {old new : Registers} (by : StepsTo packed old new) {symbol : ℕ} {e : Entry}
     (goes : GoesTo new.entry symbol e) (place : ℕ) (within : place < 64) (head : old.head ≡ 2 ^ place) where
   head_next : new.head ≡ moved_head (2 ^ place) (right_bit goes.dir)
   head_next = by.head ∙ ap (λ h. moved_head h (bit_at new.entry 7)) head ∙ ap (moved_head (2 ^ place)) goes.right
@@ -152,7 +152,7 @@ module _ {packed : RegisterTable} {old new : Registers} (by : StepsTo packed old
   goes_beyond none = moves_out place goes.dir within (sym head_next ∙ none)
 
 -- the entry that a table tells for a state and the symbol at a place
-pub packed_entry : {table : Table} {packed : RegisterTable} {old new : Registers} → IsTableOf table packed
+pub packed_entry : {table : Table} {packed : PackedTable} {old new : Registers} → IsTableOf table packed
     → StepsTo packed old new → (place state symbol : ℕ) → old.head ≡ 2 ^ place → symbol ≡ bit_at old.bits place
     → state < length table → old.entry % 64 ≡ 9 * state → IsPackedEntry new.entry symbol (entry_of table state symbol)
 packed_entry {table} {packed} {old} {new} is_table by place state symbol head_is symbol_is below shift =
@@ -179,7 +179,7 @@ module _ {table : Table} {bounds : Bounds} {run : RegisterRun} (known : IsRegist
       (omega (arith, ints, known.at.position))
 
   -- the symbol is read, and the entry is looked up
-  pub entry_known : {packed : RegisterTable} {next : Registers} → IsTableOf table packed
+  pub entry_known : {packed : PackedTable} {next : Registers} → IsTableOf table packed
       → StepsTo packed run.registers next
       → IsPackedEntry next.entry (symbol_at known.runner known.view) (applies table known.runner known.view)
   entry_known is_table by =

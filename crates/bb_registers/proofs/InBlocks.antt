@@ -30,9 +30,9 @@ use Rattle.bb_registers.specs.declared.blocks.Barrier.{Barrier}
 use Rattle.bb_registers.specs.declared.blocks.BlockRun.{BlockRun}
 use Rattle.bb_registers.specs.declared.run.RegisterRun.{RegisterRun}
 use Rattle.bb_registers.specs.declared.registers.Registers.{Registers}
-use Rattle.bb_registers.specs.declared.table.RegisterTable.{RegisterTable}
+use Rattle.bb_machine.specs.declared.packed.PackedTable.{PackedTable}
 use Rattle.bb_registers.specs.Blocks.{GoesOn, IsBlockOf, IsBlockRun, StepsBefore}
-use Rattle.bb_registers.specs.Packed.{IsPackedEntry, IsTableOf}
+use Rattle.bb_machine.specs.Packed.{IsPackedEntry, IsTableOf}
 use Rattle.bb_registers.specs.Registers.{ContinuesTo, IsRegisterRun, StepsTo, flipped_bits}
 use Rattle.bb_registers.proofs.Bits.{at_bit}
 use Rattle.bb_registers.proofs.Entries.{GoesTo, MovesTo, applies, flipped_other, flipped_same, goes_in, goes_to, packed_entry}
@@ -52,7 +52,7 @@ module _ {table : Table} {bounds : Bounds} {from : ℤ} {tape : TapeView} {run :
   symbol_is = ap (cell known.view.content) known.position ∙ known.bits known.place known.within
 
   -- the symbol is read, and the entry is looked up
-  entry_in_block : {packed : RegisterTable} {next : Registers} → IsTableOf table packed → StepsTo packed run.registers next
+  entry_in_block : {packed : PackedTable} {next : Registers} → IsTableOf table packed → StepsTo packed run.registers next
       → IsPackedEntry next.entry (symbol_at known.runner known.view) (applies table known.runner known.view)
   entry_in_block is_table by =
       rw known.state_is
@@ -60,7 +60,7 @@ module _ {table : Table} {bounds : Bounds} {from : ℤ} {tape : TapeView} {run :
       (rw known.state_is at known.stands.state_named) known.entry)
 
   -- the entry goes to a state, and the head stays in the block
-  module _ (machine : IsMachine table) {packed : RegisterTable}
+  module _ (machine : IsMachine table) {packed : PackedTable}
       (is_table : IsTableOf table packed) {next_registers : Registers} (by : StepsTo packed run.registers next_registers)
       (on : bit_at next_registers.entry 8 ≡ 1 → ⊥) (some : next_registers.head ≢ 0) (apart : run.steps ≢ bounds.steps) where
     abbrev old : Runner
@@ -170,7 +170,7 @@ module _ {table : Table} {bounds : Bounds} {from : ℤ} {tape : TapeView} {run :
       (puts.low ∙ sym known.low) (puts.high ∙ sym known.high) (puts.limit ∙ sym known.limit)
 
 -- a step before a barrier, of a run inside a block
-pub steps_in_block : {table : Table} {bounds : Bounds} {from : ℤ} {tape : TapeView} {packed : RegisterTable}
+pub steps_in_block : {table : Table} {bounds : Bounds} {from : ℤ} {tape : TapeView} {packed : PackedTable}
     {barrier : Barrier} {old new : BlockRun} → IsMachine table → IsTableOf table packed
     → IsBlockRun table bounds from tape old → StepsBefore packed barrier old new → barrier.to ≤ bounds.steps
     → IsBlockRun table bounds from tape new
@@ -188,7 +188,7 @@ abbrev pub with_block : RegisterRun → BlockRun → RegisterRun
 with_block run block = record run { registers = block.registers; steps = block.steps }
 
 -- a step before a barrier, of a run in registers whose window is the barrier's
-pub steps_in_window : {table : Table} {bounds : Bounds} {packed : RegisterTable} {barrier : Barrier} {run : RegisterRun}
+pub steps_in_window : {table : Table} {bounds : Bounds} {packed : PackedTable} {barrier : Barrier} {run : RegisterRun}
     {new : BlockRun} → IsMachine table → IsTableOf table packed → (known : IsRegisterRun table bounds run)
     → StepsBefore packed barrier (block_of run) new → barrier.window ≡ run.window → barrier.to ≤ bounds.steps
     → ContinuesTo known (with_block run new)

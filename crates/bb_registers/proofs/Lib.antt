@@ -1,6 +1,5 @@
 pub mod Facts
 pub mod Bits
-pub mod Packing
 pub mod OneBit
 pub mod Entries
 pub mod Moving

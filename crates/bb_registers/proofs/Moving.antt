@@ -38,8 +38,8 @@ use Rattle.bb_sim.proofs.Facts.{Stepped, made, moves_on, next-span, running}
 use Rattle.bb_registers.specs.declared.run.RegisterRun.{RegisterRun}
 use Rattle.bb_registers.specs.BitCells.{IsInWord, bits_content}
 use Rattle.bb_registers.specs.declared.registers.Registers.{Registers}
-use Rattle.bb_registers.specs.declared.table.RegisterTable.{RegisterTable}
-use Rattle.bb_registers.specs.Packed.{IsTableOf, right_bit}
+use Rattle.bb_machine.specs.declared.packed.PackedTable.{PackedTable}
+use Rattle.bb_machine.specs.Packed.{IsTableOf, right_bit}
 use Rattle.bb_registers.specs.Registers.{ContinuesTo, IsRegisterRun, MatchesRunner, MatchesWindow, StaysInWord, StepsTo}
 use Rattle.bb_registers.specs.Registers.{flipped_bits}
 use Rattle.bb_registers.proofs.Bits.{at_bit}
@@ -215,7 +215,7 @@ after run next window room = record { registers = next; window = window; room = 
 
 -- a step of a run whose entry goes to a state
 module _ {table : Table} {bounds : Bounds} {run : RegisterRun} (machine : IsMachine table)
-    {packed : RegisterTable} (is_table : IsTableOf table packed) (known : IsRegisterRun table bounds run)
+    {packed : PackedTable} (is_table : IsTableOf table packed) (known : IsRegisterRun table bounds run)
     {next_registers : Registers} (by : StepsTo packed run.registers next_registers)
     (on : bit_at next_registers.entry 8 ≡ 1 → ⊥) where
   abbrev old : Runner

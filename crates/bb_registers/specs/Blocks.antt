@@ -14,7 +14,7 @@ use Rattle.bb_sim.specs.Meter.{CountsTo}
 use Rattle.bb_sim.specs.Runner.{Stands, high_of, low_of, position_of, state_of, steps_of}
 use Rattle.bb_registers.specs.declared.blocks.Barrier.{Barrier}
 use Rattle.bb_registers.specs.declared.blocks.BlockRun.{BlockRun}
-use Rattle.bb_registers.specs.declared.table.RegisterTable.{RegisterTable}
+use Rattle.bb_machine.specs.declared.packed.PackedTable.{PackedTable}
 use Rattle.bb_registers.specs.Registers.{StepsTo}
 
 -- the 64 positions from one on are in a runner's window, on one side of 0, and the head is among them
@@ -62,7 +62,7 @@ pub record GoesOn (table : Table) (bounds : Bounds) (old new : Runner) (view_old
 
 -- a step by a table to a state, that keeps before a barrier: it isn't past its last step, goes to a cell of
 -- its window, and doesn't come to its head in its state
-pub record StepsBefore (packed : RegisterTable) (barrier : Barrier) (old new : BlockRun) : Type 0 where
+pub record StepsBefore (packed : PackedTable) (barrier : Barrier) (old new : BlockRun) : Type 0 where
   pub by : StepsTo packed old.registers new.registers
   pub on : bit_at new.registers.entry 8 ≡ 1 → ⊥
   pub before : old.steps < barrier.to

@@ -13,14 +13,14 @@ use Rattle.bb_sim.specs.Configuration.{entry_at}
 use Rattle.bb_sim.specs.Span.{Inside, IsLastInside, counted_head, span}
 use Rattle.bb_sim.specs.Outcome.{IsOutcome}
 use Rattle.bb_registers.specs.declared.registers.Registers.{Registers}
-use Rattle.bb_registers.specs.declared.table.RegisterTable.{RegisterTable}
+use Rattle.bb_machine.specs.declared.packed.PackedTable.{PackedTable}
 use Rattle.bb_registers.specs.declared.run.RegisterRun.{RegisterRun}
 use Rattle.bb_registers.specs.declared.run.RegisterMove.{RegisterMove}
 use Rattle.bb_registers.specs.declared.run.RegisterMove.TheVariants.{Stepped, Ended, Outside}
 use Rattle.bb_sim.specs.declared.simulation.Outcome.{Outcome}
 use Rattle.bb_sim.specs.declared.simulation.Outcome.TheVariants.{Halt}
 use Rattle.bb_registers.specs.BitCells.{IsInWord, bits_content}
-use Rattle.bb_registers.specs.Packed.{IsPackedEntry}
+use Rattle.bb_machine.specs.Packed.{IsPackedEntry}
 
 -- the bits after a write that flips the head's where the third number is not 0
 abbrev pub flipped_bits : ℕ → ℕ → ℕ → ℕ
@@ -33,7 +33,7 @@ moved_head head zero = head / 2
 moved_head head (suc right) = head * 2 % 2 ^ 64
 
 -- the registers after a step by a table, wherever its entry goes
-pub record StepsTo (packed : RegisterTable) (old new : Registers) : Type 0 where
+pub record StepsTo (packed : PackedTable) (old new : Registers) : Type 0 where
   pub zero : bit_and old.bits old.head ≡ 0 → new.entry ≡ packed.zero / 2 ^ (old.entry % 64)
   pub one : bit_and old.bits old.head ≢ 0 → new.entry ≡ packed.one / 2 ^ (old.entry % 64)
   pub bits : new.bits ≡ flipped_bits old.bits old.head (bit_at new.entry 6)

@@ -8,12 +8,11 @@ ghost use Rattle.bb_sim.specs.Meter.{CountsPart, CountsRun, CountsTo, IsWithinRu
 ghost use Rattle.bb_sim.specs.Outcome.{IsOutcome};
 ghost use Rattle.bb_sim.specs.Runner.{Stands, high_of, low_of, position_of, state_of, steps_of};
 ghost use Rattle.bb_registers.specs.Blocks.{GoesOn, IsBlockOf, IsBlockRun, StepsBefore};
-ghost use Rattle.bb_registers.specs.Packed.{IsTableOf};
+ghost use Rattle.bb_machine.specs.Packed.{IsTableOf};
 
 use crate::handover::lowest_position;
 use crate::registers::{Registers, stops};
-use crate::table::RegisterTable;
-use bb_machine::{Limits, Machine, Next};
+use bb_machine::{Limits, Machine, Next, PackedTable};
 use bb_sim::{Meter, Moved, Outcome, Runner, simulate_from};
 use bb_tape::{Memory, Tape};
 
@@ -50,7 +49,7 @@ impl BlockRun {
     /// Makes the next step, if it goes to a state and keeps before the barrier. False if not. With `SELECTS` it
     /// chooses the entry without a branch: faster in short runs, slower in long ones.
     #[inline(always)]
-    pub fn advance<const SELECTS: bool>(&mut self, table: &RegisterTable, barrier: &Barrier) -> bool
+    pub fn advance<const SELECTS: bool>(&mut self, table: &PackedTable, barrier: &Barrier) -> bool
         ensures { MatchBool result (StepsBefore table.now barrier.now self.old self.new)
             ((self.new ≡ self.old)
             × ((next : BlockRun) → StepsBefore table.now barrier.now self.old next → ⊥)) }
@@ -169,7 +168,7 @@ pub fn block_start(runner: &Runner, before: i64) -> Option<i64>
 /// Makes the steps inside a block around the head.
 fn run_block<T: Tape>(
     machine: &Machine,
-    table: &RegisterTable,
+    table: &PackedTable,
     runner: &mut Runner,
     from: i64,
     tape: &mut T,
@@ -279,7 +278,7 @@ pub(crate) fn simulate_in_blocks<T: Tape>(
     ensures limit { (T.view tape.new).limit ≡ (T.view tape.old).limit }
     ensures memory { OnErr result (IsTrue T.GROWS) }
 {
-    let table = RegisterTable::new(machine);
+    let table = machine.packed();
     let mut runner = runner;
     loop {
         let Some(from) = find_block(machine, &mut runner, tape, limits, meter) else {

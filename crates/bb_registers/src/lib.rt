@@ -1,8 +1,8 @@
 //! Runs of machines of two symbols and at most seven states, in registers while they stay within 64 cells:
 //! the bits of one number.
 //!
-//! `registers` has a configuration, `table` the machine, `run` one step and its ends. `blocks` runs on
-//! a tape by blocks, and `handover` moves a run to a tape.
+//! `registers` has a configuration, `run` one step and its ends. `blocks` runs on a tape by blocks, and
+//! `handover` moves a run to a tape.
 #![tactic(auto)]
 
 pub mod blocks;
@@ -11,11 +11,9 @@ pub mod handover;
 pub mod registers;
 pub mod run;
 pub mod simulation;
-pub mod table;
 
 pub use blocks::{Barrier, BlockRun};
 pub use cells::BitCells;
 pub use registers::Registers;
 pub use run::{RegisterMove, RegisterRun};
-pub use simulation::{fits_registers, simulate_in_registers};
-pub use table::RegisterTable;
+pub use simulation::simulate_in_registers;

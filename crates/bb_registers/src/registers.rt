@@ -4,7 +4,8 @@ ghost use Rattle.std.specs.Prelude.{bit_and};
 ghost use Rattle.std.specs.Int.{bit_at};
 ghost use Rattle.bb_registers.specs.Registers.{StepsTo, moved_head, flipped_bits};
 
-use crate::table::{FLIP, RIGHT, RegisterTable, STOP};
+use bb_machine::PackedTable;
+use bb_machine::packed::{FLIP, HALT, RIGHT, STOP};
 
 /// A configuration within 64 cells.
 #[derive(Clone, Copy, Debug)]
@@ -46,9 +47,9 @@ impl Registers {
     }
 
     /// The registers after the next step, also where its entry goes to no state. `SELECTS` as in
-    /// `RegisterTable::entry`.
+    /// `PackedTable::entry`.
     #[inline(always)]
-    pub(crate) fn next<const SELECTS: bool>(&self, table: &RegisterTable) -> Registers
+    pub(crate) fn next<const SELECTS: bool>(&self, table: &PackedTable) -> Registers
         ensures { StepsTo table.now self.now result }
     {
         let entry = table.entry::<SELECTS>(self.entry, self.reads_one());
@@ -95,7 +96,7 @@ pub fn stops(entry: u64) -> bool
 /// Whether an entry that goes to no state goes to Z.
 #[inline(always)]
 pub fn halts(entry: u64) -> bool
-    ensures { IsTrue result ↔ (bit_at entry 7 ≡ 1) }
+    ensures { IsTrue result ↔ (bit_at entry 0 ≡ 1) }
 {
-    (entry & RIGHT) != 0
+    entry & HALT != 0
 }

@@ -3,14 +3,14 @@ ghost use Rattle.std.specs.Prelude.{◌≡◌, ◌+◌, ◌-◌, ◌<◌, ◌≤
 ghost use Rattle.bb_sim.specs.Meter.{counted};
 ghost use Rattle.std.specs.Int.{bit_at};
 ghost use Rattle.bb_machine.specs.Machine.{symbols_of};
-ghost use Rattle.bb_registers.specs.Packed.{IsTableOf};
+ghost use Rattle.bb_machine.specs.Packed.{IsTableOf};
 ghost use Rattle.bb_registers.specs.Registers.{AdvancesRegisters, EndsWith, IsRegisterRun, IsNextEntry, IsSameConfiguration};
 ghost use Rattle.bb_registers.specs.Registers.{last_step};
 ghost use Rattle.bb_registers.specs.declared.run.RegisterMove.TheVariants.{Outside, Stepped};
 
 use crate::registers::{Registers, halts, stops};
-use crate::table::RegisterTable;
-use bb_machine::{Limits, Machine};
+use bb_machine::packed::RIGHT;
+use bb_machine::{Limits, Machine, PackedTable};
 use bb_sim::{Meter, Outcome};
 
 /// The outcome of `RegisterRun::advance`.
@@ -59,7 +59,7 @@ impl RegisterRun {
     pub fn advance(
         &mut self,
         machine: &Machine,
-        table: &RegisterTable,
+        table: &PackedTable,
         limits: &Limits,
     ) -> RegisterMove
         requires symbols { symbols_of machine.now ≡ 2 }
@@ -106,7 +106,7 @@ impl RegisterRun {
     pub fn went_right(&self) -> bool
         ensures { IsTrue result ↔ (bit_at self.now.registers.entry 7 ≡ 1) }
     {
-        halts(self.registers.entry)
+        self.registers.entry & RIGHT != 0
     }
 
     /// The last step of a run with this outcome: that of the halt, or else the last that was made.

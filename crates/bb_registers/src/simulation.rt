@@ -7,7 +7,6 @@ ghost use Rattle.bb_registers.specs.Registers.{EndsWith, IsRegisterRun};
 
 use crate::blocks::simulate_in_blocks;
 use crate::run::{RegisterMove, RegisterRun};
-use crate::table::{MOST_STATES, RegisterTable};
 use bb_machine::{Limits, Machine};
 use bb_sim::{Meter, Outcome, simulate};
 use bb_tape::{Memory, Tape};
@@ -19,17 +18,6 @@ struct RegisterEnd {
     run: RegisterRun,
     /// How it ends, if it does there.
     outcome: Option<Outcome>,
-}
-
-/// Whether a machine can run in registers: it has two symbols and at most seven states.
-#[inline]
-pub fn fits_registers(machine: &Machine) -> bool
-    ensures { IsTrue result ↔ ((symbols_of machine.now ≡ 2) × (length machine.now ≤ 7)) }
-{
-    if machine.symbols() != 2 {
-        return false;
-    }
-    machine.states() as usize <= MOST_STATES
 }
 
 /// Runs a machine from its start, as [`simulate`] does, but in registers while it stays within 64 cells. The
@@ -55,7 +43,7 @@ pub fn simulate_in_registers<T: Tape>(
     if T::GROWS {
         return simulate(machine, tape, limits, meter);
     }
-    if !fits_registers(machine) {
+    if !machine.is_small() {
         return simulate(machine, tape, limits, meter);
     }
     let end = run_in_registers(machine, limits);
@@ -79,7 +67,7 @@ fn run_in_registers(machine: &Machine, limits: &Limits) -> RegisterEnd
     ensures ended { IfSome result.outcome (λ outcome.
         (known : IsRegisterRun machine.now limits.now result.run) → EndsWith known outcome) }
 {
-    let table = RegisterTable::new(machine);
+    let table = machine.packed();
     let limits = *limits;
     let mut run = RegisterRun::start(machine, &limits);
     loop {

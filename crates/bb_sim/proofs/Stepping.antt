@@ -10,7 +10,7 @@ use Rattle.bb_machine.specs.declared.entry.Next.TheVariants.{State, Halt}
 use Rattle.bb_machine.specs.declared.entry.Entry.TheVariants.{Undefined, Go}
 use Rattle.bb_machine.specs.declared.entry.Entry.{Entry}
 use Rattle.bb_machine.specs.declared.entry.Dir.TheVariants.{L, R}
-use Rattle.bb_machine.specs.declared.machine.Step.{Step}
+use Rattle.bb_machine.specs.declared.entry.Step.{Step}
 use Rattle.bb_machine.specs.Limits.{Bounds}
 use Rattle.bb_machine.specs.Entry.{IsEntryOf, offset_of, step_of}
 use Rattle.bb_machine.specs.Machine.{Table, symbols_of, entry_of}

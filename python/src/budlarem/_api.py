@@ -2,7 +2,7 @@
 
 from ._library import LibraryError
 from .claims import Claim, WORDS, Word
-from .claim_tables import Columns
+from .claim_lists import Columns
 from .engine import Configuration, MachineError, Trace, check, check_bytes, decide, decide_bytes
 from .engine import recurrences, trace
 from .judging import Judged, Judgement, Judging, judge

@@ -137,7 +137,8 @@ class Batch(NamedTuple):
     lines: bytes
 
 
-def _item_error(name: str, place: int, text: Any) -> Exception:
+def item_error(name: str, place: int, text: Any) -> Exception:
+    """The error of an item of a list that is no text, or has a newline."""
     if isinstance(text, str):
         return ValueError("%s[%d] has a newline in it: %.*r" % (name, place, LONGEST_VALUE, text))
     kind = type(text).__name__
@@ -151,7 +152,7 @@ def _batch(name: str, before: int, texts: list[str]) -> Batch:
     lines = ("\n".join(cut) + "\n").encode("utf-8", "surrogatepass")
     if lines.count(b"\n") != len(texts):
         place = next(place for place, text in enumerate(texts) if "\n" in text)
-        raise _item_error(name, before + place, texts[place])
+        raise item_error(name, before + place, texts[place])
     return Batch(texts, lines)
 
 
@@ -163,7 +164,7 @@ def batch_texts(texts: Iterable[str], name: str, pace: BatchPace) -> Iterator[Ba
         if not isinstance(text, str) or (len(text) > LONGEST_GIVEN and "\n" in text):
             if held:
                 yield _batch(name, before, held)
-            raise _item_error(name, before + len(held), text)
+            raise item_error(name, before + len(held), text)
         held.append(text)
         size += len(text)
         if len(held) >= pace.now or size >= MOST_BYTES:
@@ -174,15 +175,10 @@ def batch_texts(texts: Iterable[str], name: str, pace: BatchPace) -> Iterator[Ba
 
 
 def _iter_blocks(blocks: Blocks) -> Iterator[bytes]:
-    """The bytes, cut anywhere; those in memory between lines where possible. Raises TypeError."""
+    """The bytes, cut anywhere. Raises TypeError."""
     if isinstance(blocks, (bytes, bytearray, memoryview)):
-        view, start = memoryview(blocks).cast("B"), 0
-        while start < len(view):
-            end = min(start + MOST_BYTES, len(view))
-            if end < len(view) and not isinstance(blocks, memoryview):
-                end = blocks.rfind(b"\n", start, end) + 1 or end
-            yield bytes(view[start:end])
-            start = end
+        view = memoryview(blocks).cast("B")
+        yield from (bytes(view[start : start + MOST_BYTES]) for start in range(0, len(view), MOST_BYTES))
         return
     if isinstance(blocks, str):
         raise TypeError("bytes, a file of bytes or blocks of bytes, not a str")

@@ -15,7 +15,7 @@ import math
 import os
 import stat
 import zlib
-from typing import Any, Callable, Iterable, Iterator, Mapping
+from typing import Any, Iterable, Iterator, Mapping
 
 from .runner.errors import MovedError, TakenError
 
@@ -58,18 +58,11 @@ def name_errors(path: str | os.PathLike[str], replaces: bool = False) -> Iterato
 _name_path = functools.partial(name_errors, replaces=True)
 
 
-def write_blocks(number: int, blocks: Iterable[bytes]) -> None:
-    """Writes all bytes to an open file. Raises OSError."""
-    with open(number, "wb", closefd=False) as file:
-        file.writelines(blocks)
-
-
-def write_at(number: int, data: bytes, place: int) -> None:
-    """Writes all bytes to a place of an open file. Raises OSError."""
-    rest = memoryview(data)
-    while rest:
-        count = os.pwrite(number, rest, place)
-        rest, place = rest[count:], place + count
+def hash_blocks(blocks: Iterable[bytes], digest: Any) -> Iterator[bytes]:
+    """Blocks, of which a digest of hashlib is updated."""
+    for block in blocks:
+        digest.update(block)
+        yield block
 
 
 class Directory:
@@ -191,23 +184,18 @@ class Directory:
         with _name_path(self.at(name)):
             if found is not None and found == over:
                 os.rename(part, name, **handles)
+                return
+            try:
+                os.link(part, name, **handles, follow_symlinks=False)
+            except OSError as error:
+                has_no_links = error.errno in _NO_LINKS
+                if isinstance(error, FileExistsError) or (has_no_links and self.status(name) is not None):
+                    raise TakenError(self.at(name)) from None
+                if not has_no_links:
+                    raise
+                os.rename(part, name, **handles)
             else:
-                self._install_new(part, name, handles)
-
-    def _install_new(self, part: str, name: str, handles: dict[str, int]) -> None:
-        """Gives a file a name that no file has. Raises TakenError."""
-        try:
-            os.link(part, name, **handles, follow_symlinks=False)
-        except OSError as error:
-            if isinstance(error, FileExistsError) or (
-                error.errno in _NO_LINKS and self.status(name) is not None
-            ):
-                raise TakenError(self.at(name)) from None
-            if error.errno not in _NO_LINKS:
-                raise
-            os.rename(part, name, **handles)
-        else:
-            self.remove(part)
+                self.remove(part)
 
     def sync(self) -> None:
         """Returns once the names in it are on the disk."""
@@ -216,14 +204,15 @@ class Directory:
 
 
 def write_atomically(
-    directory: Directory, name: str, fill: Callable[[int], None], over: FileId | None, syncs: bool = True
+    directory: Directory, name: str, blocks: Iterable[bytes], over: FileId | None, syncs: bool = True
 ) -> int:
-    """Writes a file whole or not at all, by `fill`; replaces only the file `over`. Returns the new file, open. `syncs`:
-    its name is on the disk then. Raises TakenError, OSError, what `fill` does."""
+    """Writes a file whole or not at all; replaces only the file `over`. Returns the new file, open. `syncs`: its name is
+    on the disk then. Raises TakenError, OSError, what `blocks` does."""
     number, part = directory.create_part(name)
     try:
         with name_errors(directory.at(name)):
-            fill(number)
+            with open(number, "wb", closefd=False) as file:
+                file.writelines(blocks)
             os.fsync(number)
         directory.install(part, name, over)
         if syncs:
@@ -245,15 +234,15 @@ class FileTarget:
         directory.require_kind(directory.status(name), name, stat.S_IFREG)
         self.over = directory.pin(name)
 
-    def write(self, fill: Callable[[int], None]) -> None:
-        """Writes the file whole or not at all, by `fill`. Raises TakenError, MovedError, OSError."""
+    def write(self, blocks: Iterable[bytes]) -> None:
+        """Writes the file whole or not at all. Raises TakenError, MovedError, OSError, what `blocks` does."""
 
-        def fill_here(number: int) -> None:
-            fill(number)
+        def blocks_here() -> Iterator[bytes]:
+            yield from blocks
             self._directory.require_name()
 
         over = None if self.over is None else id_of(os.fstat(self.over))
-        written = write_atomically(self._directory, self._name, fill_here, over)
+        written = write_atomically(self._directory, self._name, blocks_here(), over)
         self.close()
         self.over = written
 
@@ -276,7 +265,7 @@ def open_target(path: str) -> Iterator[FileTarget]:
 def write_whole(path: str, blocks: Iterable[bytes]) -> None:
     """Writes or replaces a file whole or not at all. Raises OSError; nothing is left then."""
     with open_target(path) as target:
-        target.write(lambda number: write_blocks(number, blocks))
+        target.write(blocks)
 
 
 def _finite(text: str) -> float:

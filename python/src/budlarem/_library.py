@@ -2,7 +2,6 @@
 
 from __future__ import annotations
 
-import contextlib
 import ctypes
 import functools
 import mmap
@@ -22,11 +21,9 @@ _HERE = pathlib.Path(__file__).resolve().parent
 _BUILT = ("crates/bb_c/out", "out/plain/target/release")
 _NUMBER, _SIZE, _SWITCH = ctypes.c_uint64, ctypes.c_size_t, ctypes.c_bool
 _BUFFERS = (ctypes.c_char_p, _SIZE, ctypes.c_void_p, _SIZE, ctypes.POINTER(_SIZE))
-# The magic of a 64-bit little-endian ELF file; place, size and number of the program and section headers in its
-# header; and place and length of a part of the file in a program header.
+# The magic of a 64-bit little-endian ELF file; place, size and number of the section headers, which are at its end.
 _ELF_BEGIN = b"\x7fELF\x02\x01"
-_ELF = struct.Struct("<24s8xQQ6xHHHH2x")
-_ELF_PROGRAM = struct.Struct("<8xQ16xQ")
+_ELF = struct.Struct("<40xQ10xHH2x")
 # The number of kinds of replies.
 _KINDS = 7
 _CALLS = {
@@ -89,19 +86,15 @@ def require_whole(path: pathlib.Path) -> None:
 
 
 def _least_size(file: BinaryIO) -> int | None:
-    """The least size of a 64-bit ELF file by its headers, None if these are truncated; 0 for other files,
-    which the system refuses to load. Raises OSError."""
+    """The least size of a 64-bit ELF file by its header, None if this is truncated; 0 for other files, which the
+    system refuses to load. Raises OSError."""
     head = file.read(_ELF.size)
     if not head.startswith(_ELF_BEGIN):
         return 0
-    with contextlib.suppress(struct.error):
-        _, programs, sections, program_size, programs_count, section_size, count = _ELF.unpack(head)
-        least: int = max(sections + section_size * count, programs + program_size * programs_count)
-        for place in range(programs_count):
-            file.seek(programs + place * program_size)
-            least = max(least, sum(_ELF_PROGRAM.unpack(file.read(_ELF_PROGRAM.size))))
-        return least
-    return None
+    if len(head) < _ELF.size:
+        return None
+    place, size, count = _ELF.unpack(head)
+    return int(place + size * count)
 
 
 @functools.lru_cache(maxsize=None)
@@ -132,21 +125,13 @@ def validate_replies(lines: bytes, replies: bytes) -> ReplyCheck:
     return ReplyCheck(status == CLEAN, count.value, tuple(counts))
 
 
-class ListCost(NamedTuple):
-    """The most steps and nodes of all lines; those of the most expensive line together, and its index."""
-
-    steps: int
-    nodes: int
-    most: int
-    line: int
-
-
-def cost_of_check(limits: Sequence[int], lines: bytes) -> ListCost:
-    """The most that checking some lines can cost, from the numbers in them. Raises LibraryError."""
+def cost_of_check(limits: Sequence[int], lines: bytes) -> list[int]:
+    """The most that checking some lines can cost, from the numbers in them: the steps and nodes of all; those of
+    the most expensive line together, and its index. Raises LibraryError."""
     cost = (_NUMBER * 4)()
     if bind_call("bb_check_cost")(*limits, lines, len(lines), ctypes.byref(cost)) != CLEAN:
         raise AssertionError("bb_check_cost refuses the limits %r" % (limits,))
-    return ListCost(*cost)
+    return [*cost]
 
 
 class Reply(NamedTuple):

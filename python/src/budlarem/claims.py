@@ -10,12 +10,11 @@ import re
 from typing import Iterable, Iterator
 
 from ._text import LONGEST_LINE, Words, quote
-from .claim_lists import ListForm, RereadableList
-from .claim_tables import Layout
+from .claim_lists import Layout, ListForm, RereadableList
 from .numbers import number_of, numbers_in
 from .reading import Form, Reading, Skipped
-from .reading.lines import SPACES
-from .verdicts import Halt, Refused, Undecided, Verdict, parse, verdict_of, whole_number
+from .reading.lines import SPACES, verdict_in
+from .verdicts import Halt, Refused, Undecided, Verdict, verdict_of, whole_number
 
 
 class Word(Words):
@@ -122,12 +121,9 @@ def claim_of(number: int, line: str, form: ListForm, words: dict[str, Word]) -> 
 def _of_verdict_line(number: int, line: str) -> Claim | None:
     """The claim of a verdict line, which may have fields behind a tab; None for another line."""
     bare, _, fields = line.rstrip("\r").partition("\t")
-    try:
-        verdict = parse(bare)
-    except ValueError:
-        return None
-    if isinstance(verdict, Refused):
-        return Claim(Reading(number, line, None), verdict)
+    verdict = verdict_in(bare)
+    if verdict is None or isinstance(verdict, Refused):
+        return None if verdict is None else Claim(Reading(number, line, None), verdict)
     text = bare[len(verdict.machine) + 1 :]
     reading = Reading(number, line, verdict.machine, (), "", text + ("\t" + fields if fields else ""))
     own = Word.HALTS if isinstance(verdict, Halt) else Word.NEVER_HALTS
@@ -270,9 +266,6 @@ class Translation:
     """The count of each word of a column, by its meaning."""
 
     counts: dict[str, collections.Counter[str]]
-
-    def __str__(self) -> str:
-        return "\n".join(self.lines)
 
     @property
     def lines(self) -> list[str]:

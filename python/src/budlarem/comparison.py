@@ -119,8 +119,8 @@ Pair = tuple[MachineVerdict, MachineVerdict]
 _HELD = 1 << 24
 
 
-class _ComparedPairs(Iterable[tuple[str, str]]):
-    """The pairs of verdicts that were compared, each with its machine and as a line, in a temporary file."""
+class _ComparedPairs:
+    """The pairs of verdicts that were compared, a line each, in a temporary file."""
 
     def __init__(self) -> None:
         self._file = tempfile.SpooledTemporaryFile(_HELD, "w+", encoding="ascii", newline="\n")
@@ -129,30 +129,23 @@ class _ComparedPairs(Iterable[tuple[str, str]]):
     def add(self, pair: Pair) -> None:
         self._file.write("%s\t%s\n" % pair)
 
-    def __iter__(self) -> Iterator[tuple[str, str]]:
-        self._file.seek(0)
-        return ((line.partition(" ")[0], line) for line in self._file)
-
-    def _read_forms(self) -> Iterator[tuple[str | None, str]]:
-        """The lines of the pairs, each with the form of its machine."""
-        pairs, again = itertools.tee(self)
-        forms = forms_of(machine for machine, _ in pairs)
-        return ((form.text, line) for form, (_, line) in zip(forms, again))
-
     def find(self, forms: dict[str, str]) -> dict[str, list[_Formed]]:
         """The verdicts of the first pair of each form of some machines, if any."""
-        found: dict[str, list[_Formed]] = {}
         # Most machines have the same text there.
-        ways: tuple[Callable[[], Iterator[tuple[str | None, str]]], ...] = (
-            lambda: ((forms.get(machine), line) for machine, line in self),
-            self._read_forms,
-        )
-        for items in ways:
-            needed = {*forms.values()} - {*found}
-            for form, line in items() if needed else ():
-                if form in needed and form is not None:
-                    found[form] = [*_with_forms(verdicts_of(line[:-1].split("\t"), "pair"))]
-                    needed.remove(form)
+        found = self._first_of({*forms.values()}, lambda machines: (forms.get(one, "") for one in machines))
+        rest = {*forms.values()} - found.keys()
+        return {**found, **self._first_of(rest, lambda machines: (one.text for one in forms_of(machines)))}
+
+    def _first_of(
+        self, needed: set[str], forms_in: Callable[[Iterator[str]], Iterator[str]]
+    ) -> dict[str, list[_Formed]]:
+        """The first pair of each of these forms, by a call for the forms of machines."""
+        found: dict[str, list[_Formed]] = {}
+        self._file.seek(0)
+        lines, again = itertools.tee(self._file if needed else ())
+        for form, line in zip(forms_in(line.partition(" ")[0] for line in again), lines):
+            if form in needed and form not in found:
+                found[form] = [*_with_forms(verdicts_of(line[:-1].split("\t"), "pair"))]
         return found
 
 

@@ -4,6 +4,7 @@ from __future__ import annotations
 
 import dataclasses
 import functools
+import itertools
 from typing import Callable, Iterable, Iterator
 
 from ._calls import MOST_BYTES, MOST_LINES, Batch, BatchPace, BinaryReader, Blocks, batch_bytes, batch_texts
@@ -20,7 +21,6 @@ from .verdicts import require_field_types, verdict_of
 _LARGE, _LARGE_TAPES = 1 << 22, 1 << 20
 # It makes a call over lines.
 Call = Callable[[bytes], Reply]
-_ANSWERS = {str(answer): answer for answer in Answer}
 # The most bytes of a reply beyond its line, and of an answer.
 _BEYOND, _ANSWER = 98, 7
 # The most bytes of replies on recurrences, for each byte of the list and for each line.
@@ -90,9 +90,10 @@ def _require_list(name: str, texts: Iterable[object]) -> None:
     iter(texts)
 
 
-def _reply_lines(
+def reply_lines(
     batches: Iterator[Batch], call: Call, threads: int, pace: BatchPace
 ) -> Iterator[tuple[str, str]]:
+    """Each text of these batches, with its line of the replies."""
     for batch, reply in map_in_order(lambda one: call(one.lines), batches, threads, pace):
         yield from zip(batch.texts, reply.text.decode().split("\n"))
 
@@ -124,7 +125,7 @@ def decide(
     threads, pace = _prepare(limits, plan, threads), BatchPace(MOST_LINES)
     _require_list("machines", machines)
     batches = batch_texts(machines, "machines", pace)
-    pairs = _reply_lines(batches, decide_call(limits, plan), threads, pace)
+    pairs = reply_lines(batches, decide_call(limits, plan), threads, pace)
     return (verdict(machine, line) for machine, line in pairs)
 
 
@@ -154,7 +155,7 @@ def _claim_replies(
     pace = BatchPace(MOST_LINES, is_steady=limits.cells >= _LARGE_TAPES)
     _require_list("lines", lines)
     batches = batch_texts(_lines_of(lines), "lines", pace)
-    return (reply for _, reply in _reply_lines(batches, call(limits), threads, pace))
+    return (reply for _, reply in reply_lines(batches, call(limits), threads, pace))
 
 
 def check(lines: Iterable[str | Verdict], limits: Limits = Limits(), *, threads: int = 1) -> Iterator[Answer]:
@@ -166,7 +167,7 @@ def check(lines: Iterable[str | Verdict], limits: Limits = Limits(), *, threads:
     >>> [answer.name for answer in check(["1RB1LB_1LA1RZ halt 6 4", "1RB1LB_1LA1RZ halt 6 5", "x"])]
     ['OK', 'BAD', 'UNREAD']
     """
-    return (_ANSWERS[answer] for answer in _claim_replies(lines, check_call, limits, threads))
+    return map(Answer, _claim_replies(lines, check_call, limits, threads))
 
 
 def recurrences(
@@ -255,19 +256,12 @@ class Trace(Iterator[Configuration]):
     def __init__(self, machine: str, upto: int, cells: int, start: int, every: int) -> None:
         self.cut: bool | None = None
         self._machine, self._upto, self._cells = machine, upto, cells
-        self._next, self._every = start, every
-        # The most cells visited at the last line so far.
-        self._visited = start + 1
-        self._held: Iterator[bytes] = iter(())
+        # The next step, and the most cells visited at the last line so far.
+        self._next, self._every, self._visited = start, every, start + 1
+        self._held = itertools.chain.from_iterable(iter(self._lines, None))
 
     def __next__(self) -> Configuration:
-        line = next(self._held, None)
-        while line is None:
-            if self.cut is not None:
-                raise StopIteration
-            self._held = iter(self._lines())
-            line = next(self._held, None)
-        step, state, position, low, cells = line.decode().split(" ")
+        step, state, position, low, cells = next(self._held).decode().split(" ")
         return Configuration(int(step), state, int(position), cells, int(low))
 
     def _longest(self, count: int) -> int:
@@ -275,10 +269,12 @@ class Trace(Iterator[Configuration]):
         visited = min(self._cells, self._visited + self._every * count, self._upto + 1)
         return len("%d Z -%d -%d \n" % (self._upto, self._cells, self._cells)) + visited
 
-    def _lines(self) -> list[bytes]:
-        """The next lines, as many as fit. Each call runs the machine from its start. Raises MachineError."""
-        rest = (self._upto - self._next) // self._every + 1 if self._next <= self._upto else 0
-        count = rest
+    def _lines(self) -> list[bytes] | None:
+        """The next lines, as many as fit; None at the end. Each call runs the machine from its start. Raises
+        MachineError."""
+        if self.cut is not None:
+            return None
+        count = rest = max((self._upto - self._next) // self._every + 1, 0)
         while count > 1 and count * self._longest(count) > _TRACED_AT_WORST:
             count //= 2
         room = min(count * self._longest(count), _TRACED) + _LONGEST_REFUSAL

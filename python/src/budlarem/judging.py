@@ -9,8 +9,7 @@ import time
 from typing import Callable, Iterable, Iterator, TypeVar
 
 from ._text import Words, escape_controls, quote
-from .claim_lists import RereadableList
-from .claim_tables import Columns
+from .claim_lists import Columns, RereadableList
 from .claims import WORDS, Claim, Claims, Translation, Word, translation_of
 from .comparison import Agreement, agreement
 from .engine import decide
@@ -196,21 +195,17 @@ def _decide_claims(
     def machines() -> Iterator[str]:
         for claim in claims:
             waiting.append(claim)
-            if claim.reading.machine is not None:
-                yield claim.reading.machine
+            yield claim.reading.machine or ""
 
     for verdict in decide(machines(), limits, plan, threads=threads):
-        while waiting[0].reading.machine is None:
-            yield waiting.popleft(), None
-        yield waiting.popleft(), verdict
-    while waiting:
-        yield waiting.popleft(), None
+        claim = waiting.popleft()
+        yield claim, verdict if claim.reading.machine else None
 
 
 class Judging(Iterator[Judged]):
     """The judgements, one after another. `undefined_steps` says whether a step is counted for an undefined
-    transition, `start_offset` how much later each start is given; `theirs` describes the list. At the end `missing` and `foreign` compare it with the other
-    list."""
+    transition, `start_offset` how much later each start is given; `theirs` describes the list. At the end `missing`
+    and `foreign` compare it with the other list."""
 
     def __init__(
         self,
@@ -222,13 +217,10 @@ class Judging(Iterator[Judged]):
     ) -> None:
         self.undefined_steps, self.start_offset, self.theirs = undefined_steps, numbers.offset, theirs
         self._decided, self._lists, self._numbers = decided, lists, numbers
-        self._held: Iterator[Judged] = iter(())
+        self._judged = itertools.chain.from_iterable(iter(self._judge_batch, []))
 
     def __next__(self) -> Judged:
-        if (judged := next(self._held, None)) is None:
-            self._held = iter(self._judge_batch())
-            judged = next(self._held)
-        return judged
+        return next(self._judged)
 
     def missing(self) -> list[tuple[int, str]]:
         """The machines of the other list that have no line, each with the number of its line there."""
@@ -294,9 +286,8 @@ class Judging(Iterator[Judged]):
         if isinstance(ours, Halt) != (word is Word.HALTS):
             return Judged(Judgement.CONTRADICTED, claim, ours, _disagreement(claim, ours))
         if claim.steps is None and claim.score is None:
-            return Judged(
-                Judgement.CONFIRMED, claim, ours, "%s, as ours says%s" % (word, _unjudged_suffix(claim))
-            )
+            reason = "%s, as ours says%s" % (word, _unjudged_suffix(claim))
+            return Judged(Judgement.CONFIRMED, claim, ours, reason)
         assert isinstance(ours, Halt)
         halt = halt_with_steps(ours) if self.undefined_steps else ours
         if claim.steps not in (None, halt.steps) or claim.score not in (None, halt.score):
@@ -314,17 +305,11 @@ class Judging(Iterator[Judged]):
         return Judged(Judgement.NOT_JUDGED, claim, ours, "%s: over the checker's limits" % words)
 
 
-_OF_EXACTNESS = {
-    Exactness.EXACT: Judgement.CONFIRMED,
-    Exactness.TRUE: Judgement.CONFIRMED,
-    Exactness.FALSE: Judgement.CONTRADICTED,
-    None: Judgement.NOT_JUDGED,
-}
-
-
 def _with_numbers(judged: Judged, finding: Finding) -> Judged:
     """The judgement of a claim with a start or a period: of these alone, or of a verdict beside them too."""
-    judgement, reason = _OF_EXACTNESS[finding.exactness], finding.reason + _unjudged_suffix(judged.claim)
+    judgement = Judgement.NOT_JUDGED if finding.exactness is None else Judgement.CONFIRMED
+    judgement = Judgement.CONTRADICTED if finding.exactness is Exactness.FALSE else judgement
+    reason = finding.reason + _unjudged_suffix(judged.claim)
     if judged.claim.verdict is not None:
         is_worse = judgement is Judgement.CONTRADICTED or judged.judgement is Judgement.CONFIRMED
         judgement = judgement if is_worse else judged.judgement

@@ -10,7 +10,8 @@ import os
 import zlib
 from typing import Any, BinaryIO, Callable, Iterable, Iterator, Union
 
-from ._text import BYTES_KEPT, LONGEST_UNENDED, LONGEST_VALUE
+from ._calls import item_error
+from ._text import BYTES_KEPT, LONGEST_UNENDED
 
 # The first bytes of encodings and formats. UTF-32 comes before UTF-16, whose mark is a prefix of its own.
 _MARKS = (
@@ -129,11 +130,9 @@ class Lines(Iterable[Numbered]):
         for place, item in enumerate(items):
             if isinstance(item, bytes):
                 item = item.decode("utf-8", "surrogateescape")
-            if not isinstance(item, str):
-                raise TypeError("lines[%d] is of type %s, not str" % (place, type(item).__name__))
-            line = item[:-1] if item.endswith("\n") else item
-            if "\n" in line:
-                raise ValueError("lines[%d] has a newline in it: %.*r" % (place, LONGEST_VALUE, item))
+            line = item[:-1] if isinstance(item, str) and item.endswith("\n") else item
+            if not isinstance(line, str) or "\n" in line:
+                raise item_error("lines", place, item)
             if line in ("", "\r"):
                 self.empty += 1
             else:
@@ -149,7 +148,7 @@ class Lines(Iterable[Numbered]):
 
     def _split_lines(self, file: BytesFile) -> Iterator[tuple[int, bytes]]:
         """The lines of a file, each cut to BYTES_KEPT bytes. Raises EncodingError, EndlessLineError."""
-        number, rest, unended = 1, b"", 0
+        number, rest = 1, b""
         block = file.first(4)
         if (encoding := find_encoding(block)) is not None:
             raise EncodingError(file.name, encoding)
@@ -159,9 +158,6 @@ class Lines(Iterable[Numbered]):
                 number += len(block)
                 block = file.read1(BLOCK)
                 continue
-            unended = unended + len(block) if block.rfind(b"\n") < 0 else 0
-            if unended > LONGEST_UNENDED:
-                raise EndlessLineError(file.name, number)
             lines = (rest + block).split(b"\n")
             rest = lines.pop()[:BYTES_KEPT]
             for at, line in enumerate(lines, number):
@@ -187,7 +183,7 @@ class BytesFile:
             raw = BlockReader(getattr(source, "read1", None) or source.read)  # type: ignore[assignment]
         self._file: Any = io.BufferedReader(raw, BLOCK)
         self._opened: Any = None
-        # The newlines that `read` has returned, and the bytes since the last one.
+        # The newlines that were read, and the bytes since the last one.
         self._newlines, self._unended = 0, 0
 
     def _reader(self) -> Any:
@@ -200,17 +196,11 @@ class BytesFile:
 
     def read(self, size: int = -1) -> bytes:
         """The next bytes, fewer only at the end. Raises EndlessLineError."""
-        block = self._wrap_errors(lambda: self._reader().read(size))
-        last = block.rfind(b"\n")
-        self._newlines += block.count(b"\n")
-        self._unended = self._unended + len(block) if last < 0 else len(block) - last - 1
-        if self._unended > LONGEST_UNENDED:
-            raise EndlessLineError(self.name, self._newlines + 1)
-        return block
+        return self._next(lambda file: file.read(size))
 
     def read1(self, size: int) -> bytes:
-        """The next bytes, at most `size`, once there are some; none at the end."""
-        return self._wrap_errors(lambda: self._reader().read1(size))
+        """The next bytes, at most `size`, once there are some; none at the end. Raises EndlessLineError."""
+        return self._next(lambda file: file.read1(size))
 
     def first(self, size: int) -> bytes:
         """The first bytes: `size` or more, fewer only at the end."""
@@ -219,13 +209,18 @@ class BytesFile:
             block += more
         return block
 
-    def _wrap_errors(self, call: Callable[[], Any]) -> bytes:
-        """Raises OSError for a gzip that is cut or changed."""
+    def _next(self, read: Callable[[Any], Any]) -> bytes:
+        """The next bytes. Raises OSError for a gzip that is cut or changed, EndlessLineError."""
         try:
-            block: bytes = call()
-            return block
+            block: bytes = read(self._reader())
         except (EOFError, zlib.error, gzip.BadGzipFile) as error:
             raise OSError("%s can't be read as gzip: %s" % (self.name, error)) from None
+        last = block.rfind(b"\n")
+        self._newlines += block.count(b"\n")
+        self._unended = self._unended + len(block) if last < 0 else len(block) - last - 1
+        if self._unended > LONGEST_UNENDED:
+            raise EndlessLineError(self.name, self._newlines + 1)
+        return block
 
     def close(self) -> None:
         if self._is_ours:

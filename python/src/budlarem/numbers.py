@@ -1,7 +1,8 @@
 """Reads whole numbers, with or without groups of three digits."""
 
+import itertools
 import re
-from typing import Iterator, Sequence
+from typing import Sequence
 
 from ._text import quote
 
@@ -11,6 +12,8 @@ _NUMBER = re.compile(
 )
 
 _DIGITS = re.compile("[0-9]{1,99}")
+# The most words of four numbers below 2^64, which have seven groups.
+_MOST_WORDS = 28
 # A number times a power of ten, with or without decimals.
 _POWER = re.compile("(?:([0-9]{1,15})(?:\\.([0-9]{1,15}))?[eE]\\+?|10\\^)([0-9]{1,2})")
 
@@ -58,21 +61,11 @@ def option_number(text: str) -> int:
 
 def numbers_in(words: Sequence[str], counts: Sequence[int]) -> list[int]:
     """The numbers of these words. Raises ValueError unless one way to read them gives so many numbers."""
-    ways = [way for way in _ways(list(words), max(counts)) if len(way) in counts]
+    ways: list[list[str]] = []
+    for count in counts if len(words) <= _MOST_WORDS else ():
+        for cuts in itertools.combinations(range(1, len(words)), count - 1):
+            parts = [" ".join(words[start:end]) for start, end in zip((0, *cuts), (*cuts, len(words)))]
+            ways += [parts] if all(map(_NUMBER.fullmatch, parts)) else []
     if len(ways) != 1:
-        text = quote(" ".join(words))
-        raise ValueError("%s can be read as numbers in %d ways" % (text, len(ways)))
+        raise ValueError("%s can be read as numbers in %d ways" % (quote(" ".join(words)), len(ways)))
     return [number_of(text) for text in ways[0]]
-
-
-def _ways(words: list[str], most: int) -> Iterator[list[str]]:
-    """The ways to join words to at most so many numbers."""
-    if not words:
-        yield []
-    if not words or most == 0:
-        return
-    for size in range(1, len(words) + 1):
-        if _NUMBER.fullmatch(" ".join(words[:size])) is None:
-            break
-        for rest in _ways(words[size:], most - 1):
-            yield [" ".join(words[:size]), *rest]

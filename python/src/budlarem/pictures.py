@@ -115,37 +115,29 @@ def row_colours(row: Configuration, left: int, right: int, has_head: bool = True
     return bytes(shown)
 
 
-def _spread(values: bytes, apart: int) -> bytearray:
-    """The values, each `apart` bytes behind the one before, with zeros between them."""
-    lanes = bytearray(apart * len(values))
-    lanes[::apart] = values
-    return lanes
-
-
 def _sums(values: bytes, across: int) -> tuple[int, ...]:
     """The sum of each `across` values, by additions of whole rows: each value has four bytes of a long number."""
-    rows = (_spread(values[start::across], 4) for start in range(across))
-    total = sum(int.from_bytes(row, "little") for row in rows)
-    count = len(values) // across
+    count, total = len(values) // across, 0
+    for start in range(across):
+        row = bytearray(4 * count)
+        row[::4] = values[start::across]
+        total += int.from_bytes(row, "little")
     return struct.unpack("<%dI" % count, total.to_bytes(4 * count, "little"))
 
 
 def mean_colours(row: bytes, across: int) -> bytes:
-    """The mean colours of each `across` places; three bytes a pixel: red, green, blue. The last pixel has the places
-    that are left."""
-    rest = row[len(row) - len(row) % across :]
-    row, half = row[: len(row) - len(rest)], across // 2
+    """The mean colours of each `across` places; three bytes a pixel: red, green, blue."""
     pixels = bytearray(3 * (len(row) // across))
     for colour, values in enumerate(_CHANNELS if row else ()):
         sums = _sums(row.translate(values), across)
-        pixels[colour::3] = bytes([(total + half) // across for total in sums])
-    return bytes(pixels) + (_mean(rest, len(rest)) if rest else b"")
+        pixels[colour::3] = bytes([(total + across // 2) // across for total in sums])
+    return bytes(pixels)
 
 
 def _mean(part: bytes, size: int) -> bytes:
-    """The mean colour of `size` places, unvisited ones behind `part`."""
+    """The mean colour of `size` places, unvisited ones behind `part`; none of no part."""
     others = size - len(part)
-    sums = (sum(part.translate(values)) + others * values[UNVISITED] for values in _CHANNELS)
+    sums = (sum(part.translate(values)) + others * values[UNVISITED] for values in _CHANNELS if part)
     return bytes((total + size // 2) // size for total in sums)
 
 
@@ -157,10 +149,9 @@ def _scaled_row(row: Configuration, first: int, wide: int, across: int) -> bytes
         cells = row.cells[start - row.low : end - row.low].encode().translate(_DIGITS)
         # The first pixel and the last one may have unvisited places too.
         head = min((first - start) % across, len(cells))
-        tail = (len(cells) - head) % across
-        means = _mean(cells[:head], across) if head else b""
-        means += mean_colours(cells[head : len(cells) - tail], across)
-        means += _mean(cells[len(cells) - tail :], across) if tail else b""
+        tail = len(cells) - (len(cells) - head) % across
+        means = _mean(cells[:head], across) + mean_colours(cells[head:tail], across)
+        means += _mean(cells[tail:], across)
         begin = 3 * ((start - first) // across)
         pixels[begin : begin + len(means)] = means
     return bytes(pixels)

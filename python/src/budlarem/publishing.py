@@ -8,28 +8,26 @@ import contextlib
 import dataclasses
 import errno
 import hashlib
-import io
 import json
 import os
 import pathlib
 import string
 import tarfile
 import textwrap
-from typing import Any, BinaryIO, Callable, Iterable, Iterator, NoReturn, Sequence, Union
+from typing import Any, Callable, Iterable, Iterator, NoReturn, Sequence, Union
 
 from ._calls import BatchPace, map_in_order
-from ._files import Checksum, Directory, open_target
+from ._files import Checksum, Directory, hash_blocks, open_target
 from ._library import is_plain, validate_replies
 from ._text import LONGEST_SHOWN
 from .counts import UNDECIDED, VerdictCounts
 from .engine import check_call
 from .limits import GREATEST, Limits, in_range, words_of
-from .list_files import BlockReader
-from .runner.chunks import Identity, identity
 from .runner.errors import CheckError, FolderError
 from .runner.folder import FinishedRun
 from .runner.input import ListFile, StreamLines
 from .runner.pass_folder import Outcome
+from .runner.replies import Identity, identity
 from .runner.store import SealError, read_sealed
 from .shards import PLAN, SUMMARY, Plan, cover_skeleton, read_plan
 from .verification import find_unconfirmed
@@ -79,9 +77,8 @@ class ArchivedFile:
         with contextlib.closing(ListFile(self.path)) as source:
             if not source.is_regular:
                 raise PublishError("%s is read more than once, so it has to be a file" % source.name)
-            for block in source.blocks():
+            for block in hash_blocks(source.blocks(), digest):
                 checksum = checksum.add_bytes(block)
-                digest.update(block)
                 yield block
         if self.sha256 not in ("", digest.hexdigest()):
             raise PublishError(_CHANGED % self.path)
@@ -144,26 +141,25 @@ class Archive:
         )
         return {README: page.encode(), **small}
 
-    def write(self, file: BinaryIO) -> None:
-        """Writes the archive. Raises PublishError if a file has changed, RunError, OSError."""
-        small, inputs = self._small(), {given.name: given for given in self.inputs}
+    def blocks(self) -> Iterator[bytes]:
+        """The bytes of the archive. Raises PublishError if a file has changed, RunError, OSError."""
+        small, inputs, size = self._small(), {given.name: given for given in self.inputs}, 0
         sums = {name: hashlib.sha256(data).hexdigest() for name, data in small.items()}
         sums.update({name: given.sha256 for name, given in inputs.items()})
         names = [name for name in _FILES if name in sums]
         small[SUMS] = "".join("%s  %s\n" % (sums[name], name) for name in names).encode()
         folder = "verdicts-" + hashlib.sha256(small[SUMS]).hexdigest()[:_DIGITS]
-        with tarfile.open(fileobj=file, mode="w", format=tarfile.PAX_FORMAT) as archive:
-            for name in [*names, SUMS]:
-                # The entry has no traces of this computer.
-                member = tarfile.TarInfo("%s/%s" % (folder, name))
-                member.size = inputs[name].checksum.size if name in inputs else len(small[name])
-                member.mtime, member.mode = _TIME, 0o644
-                blocks = inputs[name].blocks() if name in inputs else iter([small[name]])
-                reader = io.BufferedReader(BlockReader(lambda size: next(blocks, b"")), _BYTES)
-                archive.addfile(member, reader)
-                # The end of a file is read too, where its sha256 is compared.
-                if reader.read(1):
-                    raise PublishError(_CHANGED % name)
+        for name in [*names, SUMS]:
+            # The entry has no traces of this computer.
+            member = tarfile.TarInfo("%s/%s" % (folder, name))
+            member.size = inputs[name].checksum.size if name in inputs else len(small[name])
+            member.mtime, member.mode = _TIME, 0o644
+            yield (header := member.tobuf(tarfile.PAX_FORMAT))
+            yield from inputs[name].blocks() if name in inputs else [small[name]]
+            yield bytes(-member.size % tarfile.BLOCKSIZE)
+            size += len(header) + member.size + -member.size % tarfile.BLOCKSIZE
+        end = 2 * tarfile.BLOCKSIZE
+        yield bytes(end + -(size + end) % tarfile.RECORDSIZE)
 
 
 def _full_archive(
@@ -209,21 +205,12 @@ def _holdout_parts(
 
 
 def _write_new(path: str, archive: Archive) -> Published:
-    """Writes an archive whole or not at all. Raises FileExistsError, OSError, what `Archive.write` does."""
+    """Writes an archive whole or not at all. Raises FileExistsError, OSError, what `Archive.blocks` does."""
     digest = hashlib.sha256()
-
-    def fill(number: int) -> None:
-        with open(number, "w+b", closefd=False) as file:
-            archive.write(file)
-            file.flush()
-            file.seek(0)
-            for block in iter(lambda: file.read(_BYTES), b""):
-                digest.update(block)
-
     with open_target(path) as target:
         if target.over is not None:
             raise FileExistsError(errno.EEXIST, "is there", path)
-        target.write(fill)
+        target.write(hash_blocks(archive.blocks(), digest))
     confirmed = archive.confirmed
     return Published(path, digest.hexdigest(), confirmed, sum(archive.counts.kinds.values()) - confirmed)
 

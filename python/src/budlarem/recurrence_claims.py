@@ -66,11 +66,10 @@ class NumbersJudge:
 
     def findings(self, claims: Sequence[tuple[Claim, Verdict]]) -> list[Finding]:
         made = [ours if isinstance(ours, _PAIRS) else self._pair_of(claim) for claim, ours in claims]
-        is_ours = [pair is ours for pair, (_, ours) in zip(made, claims)]
         replies: dict[int, RecurrenceReply] = {}
         for of_ours, limits in ((True, self.limits), (False, self.checker)):
-            those = (k for k, own in enumerate(is_ours) if own is of_ours)
-            pairs = {k: pair for k in those if not isinstance(pair := made[k], Finding)}
+            those = ((k, pair) for k, pair in enumerate(made) if (pair is claims[k][1]) is of_ours)
+            pairs = {k: pair for k, pair in those if not isinstance(pair, Finding)}
             replies.update(zip(pairs, recurrences_of([*pairs.values()], limits, self.threads)))
         return [
             pair if isinstance(pair, Finding) else self._finding(claim, pair, replies[place])

@@ -5,7 +5,6 @@ from __future__ import annotations
 import base64
 import bisect
 import collections
-import concurrent.futures
 import dataclasses
 import html
 import io
@@ -16,10 +15,11 @@ import re
 import string
 from typing import Any, Iterable, Iterator, Sequence
 
-from ._files import open_target, write_blocks
+from ._calls import BatchPace, map_in_order
+from ._files import open_target
 from ._text import Words
 from .counts import KINDS, VerdictCounts
-from .engine import Configuration, trace
+from .engine import trace
 from .limits import Limits, in_range
 from .pictures import draw_rows, sample_rows, visible_range
 from .verdicts import Verdict, size_of, verdicts_of
@@ -135,12 +135,6 @@ def plot(counts: collections.Counter[int], name: str) -> str:
     return text.replace("<svg ", '<svg role="img" aria-label="Distribution of %s" ' % html.escape(name), 1)
 
 
-def diagram(rows: Sequence[Configuration]) -> bytes:
-    """A diagram of at most SIZE by SIZE pixels, a PNG file; a wide one has mean colours of positions."""
-    first, last, _ = visible_range(rows, None, None, None)
-    return draw_rows(rows, first, last, -(-(last - first + 1) // SIZE), 1)
-
-
 # The powers of the steps between which a growth is called a root.
 _ROOT = (0.2, 0.8)
 
@@ -176,22 +170,13 @@ def classify_growth(visited: tuple[int, int, int]) -> Growth:
     return Growth.ROOT if power < _ROOT[1] else Growth.LINE
 
 
-def _visited_by_hundredths(machine: str, steps: int, cells: int) -> tuple[bool | None, list[int]]:
-    """Whether the cells ended the run, None if nothing did; the cells visited after each hundredth."""
-    apart = max(steps // 100, 1)
-    rows = trace(machine, steps, cells, apart + steps % apart, apart)
-    found = list(rows)
-    went_on = len(found) == steps // apart and found[-1].state != "Z"
-    return (None if went_on else rows.cut), [len(now.cells) for now in found]
-
-
 def _last_step(machine: str, steps: int, cells: int) -> int:
-    last, apart = 0, max(steps // 100, 1)
-    while True:
-        last = max((now.step for now in trace(machine, steps, cells, last, apart)), default=last)
-        if apart == 1:
-            return last
+    """The last step up to `steps` that the cells allow, and at most the one that halts."""
+    last, apart = 0, steps
+    while apart > 1:
         apart = max(apart // 100, 1)
+        last = max((now.step for now in trace(machine, steps, cells, last, apart)), default=last)
+    return last
 
 
 def measure_growth(machine: str, steps: int, cells: int = 65_536) -> GrowthSamples:
@@ -205,25 +190,23 @@ def measure_growth(machine: str, steps: int, cells: int = 65_536) -> GrowthSampl
     <Growth.LINE: 'line'>
     """
     in_range("steps", steps, 100, Limits.RANGES["steps"][1])
-    is_cut, counts = _visited_by_hundredths(machine, steps, cells)
-    if is_cut is not None:
+    run = trace(machine, steps, cells, steps)
+    state = next((now.state for now in run), "Z")
+    if state == "Z":
         steps = _last_step(machine, steps, cells)
-    if is_cut is False:
-        rows = (next(trace(machine, at, cells, at)) for at in (steps // 100, steps // 10, steps))
-        first, second, last = (len(now.cells) for now in rows)
+    first, second, last = (
+        len(now.cells) for at in (steps // 100, steps // 10, steps) for now in trace(machine, at, cells, at)
+    )
+    if state == "Z" and not run.cut:
         return GrowthSamples(steps, (first, second, last), Growth.HALTS)
-    if is_cut:
-        counts = _visited_by_hundredths(machine, steps, cells)[1]
-    if len(counts) < 100:
-        last = counts[-1] if counts else 0
+    if steps < 100:
         return GrowthSamples(steps, (last, last, last), Growth.LINE)
-    visited = (counts[len(counts) // 100 - 1], counts[len(counts) // 10 - 1], counts[-1])
-    return GrowthSamples(steps, visited, classify_growth(visited))
+    return GrowthSamples(steps, (first, second, last), classify_growth((first, second, last)))
 
 
 @dataclasses.dataclass(frozen=True)
 class MachineDiagram:
-    """An undecided machine of the report."""
+    """An undecided machine of the report, and its diagram, a PNG file."""
 
     machine: str
     growth: GrowthSamples
@@ -233,13 +216,12 @@ class MachineDiagram:
 def trace_all(machines: Sequence[str], steps: int, cells: int, threads: int) -> list[MachineDiagram]:
     def trace_machine(machine: str) -> MachineDiagram:
         rows, _ = sample_rows(machine, steps, cells, SIZE)
-        return MachineDiagram(machine, measure_growth(machine, steps, cells), diagram(rows))
+        first, last, _ = visible_range(rows, None, None, None)
+        # A wide diagram has mean colours of positions.
+        png = draw_rows(rows, first, last, -(-(last - first + 1) // SIZE), 1)
+        return MachineDiagram(machine, measure_growth(machine, steps, cells), png)
 
-    pool = concurrent.futures.ThreadPoolExecutor(threads)
-    try:
-        return list(pool.map(trace_machine, machines))
-    finally:
-        pool.shutdown(wait=False, cancel_futures=True)
+    return [found for _, found in map_in_order(trace_machine, machines, threads, BatchPace(1))]
 
 
 def _counts(found: Statistics) -> Iterator[str]:
@@ -329,5 +311,5 @@ def report(
         found = Statistics(verdicts, diagrams)
         machines = [machine for _, machine in found.smallest]
         page = _page(found, trace_all(machines, steps, cells, threads or os.cpu_count() or 1), title)
-        target.write(lambda number: write_blocks(number, [page.encode("utf-8")]))
+        target.write([page.encode("utf-8")])
     return Report(os.fspath(path), title, page)

@@ -16,10 +16,10 @@ import os
 import re
 from typing import Callable, Iterable, Iterator
 
-from ._calls import MOST_LINES, BatchPace, batch_texts, catch_error, map_in_order
+from ._calls import MOST_LINES, BatchPace, batch_texts, catch_error
 from ._files import Directory
-from ._library import call_library
-from .engine import MachineError, check, column_of, decide
+from ._library import Reply, call_library
+from .engine import MachineError, check, column_of, decide, reply_lines
 from .limits import Limits, words_of
 from .shards import SKELETON, VerdictReader, read_plan, run_cover, sha256_of, walk_shard
 from .verdicts import Answer, Backward, Cycler, Halt, Translated, Undecided, Verdict
@@ -63,13 +63,6 @@ class Line:
         return "%s %s %s" % ("mirror" if self.is_mirrored else "same", self.states, self.symbols)
 
 
-def _line_of(reply: str) -> Line:
-    """The line in a reply of the library."""
-    machine, _, line, side, states, symbols, *end = reply.split(" ")
-    halt = LineHalt(int(end[1]), int(end[2]), end[3]) if end[0] == "halt" else None
-    return Line(machine, line, side == "mirror", states, symbols, halt)
-
-
 def lines_of(machines: Iterable[str], *, steps: int = 1_000_000, cells: int = 65_536) -> Iterator[Line]:
     """The line of each machine in complete lists made with these limits.
 
@@ -82,18 +75,17 @@ def lines_of(machines: Iterable[str], *, steps: int = 1_000_000, cells: int = 65
     pace = BatchPace(MOST_LINES)
     asked = (limits.steps, limits.cells)
 
-    def call(lines: bytes) -> str:
+    def call(lines: bytes) -> Reply:
         room = _FOLD * len(lines) + _BEYOND * (lines.count(b"\n") + 1)
-        return call_library("bb_line_of", asked, lines, room).text.decode()
+        return call_library("bb_line_of", asked, lines, room)
 
-    place = 0
-    batches = batch_texts(machines, "machines", pace)
-    for batch, replies in map_in_order(lambda one: call(one.lines), batches, 1, pace):
-        for text, reply in zip(batch.texts, replies.split("\n")):
-            if reply == "unread":
-                raise MachineError(text, column_of(text) or 1, "machines[%d]" % place)
-            yield _line_of(reply)
-            place += 1
+    pairs = reply_lines(batch_texts(machines, "machines", pace), call, 1, pace)
+    for place, (text, reply) in enumerate(pairs):
+        if reply == "unread":
+            raise MachineError(text, column_of(text) or 1, "machines[%d]" % place)
+        found, _, line, side, states, symbols, *end = reply.split(" ")
+        halt = LineHalt(int(end[1]), int(end[2]), end[3]) if end[0] == "halt" else None
+        yield Line(found, line, side == "mirror", states, symbols, halt)
 
 
 @dataclasses.dataclass(frozen=True)
@@ -164,10 +156,9 @@ class WalkedList:
         return before
 
     def missing(self, machine: str) -> ListError:
-        return ListError(
-            "%s has no line %s: it is no complete list of %d states and %d symbols with %d steps in the order of the walk"
-            % (self.name, machine, *size_of(machine), self._steps)
-        )
+        size = "%d states and %d symbols with %d steps" % (*size_of(machine), self._steps)
+        why = "it is no complete list of %s in the order of the walk" % size
+        return ListError("%s has no line %s: %s" % (self.name, machine, why))
 
 
 class ShardedList:

@@ -15,6 +15,7 @@ the work, found in the PATH: `tree_normal_form` lists, `bb` decides, `cover` che
 
 from __future__ import annotations
 
+import collections
 import contextlib
 import dataclasses
 import functools
@@ -29,17 +30,17 @@ import threading
 import time
 from typing import IO, Any, Callable, Iterable, Iterator, NamedTuple, Sequence
 
-from ._files import Directory, FileTarget, read_json, write_blocks
+from ._files import Directory, FileTarget, hash_blocks, read_json
 from ._fork import forbid_fork
 from .counts import RecurrenceCounts, VerdictCounts
 from .engine import recurrence_call
 from .limits import Limits
 from .runner.backends import Backend
-from .runner.chunks import ChunkReply, identity, open_reply, reply_of
-from .runner.dispatch import Assignment, Dispatcher, Request
+from .runner.dispatch import Assignment, Dispatcher
 from .runner.errors import CheckError, FolderError, ReplyError, RunError
 from .runner.folder import LOCK, remove_leftovers
 from .runner.progress import TerminalLine
+from .runner.replies import Output, Request, do_here, identity
 from .runner.store import OriginError, Result, SealError, Store, hash_of, locked_folder, read_sealed, seal
 from .walk_order import WalkOrder
 
@@ -50,8 +51,6 @@ SHARDS = "shards"
 _BLOCK = 1 << 16
 _COVERS = re.compile(r"covers below \S+: (\d+) lines?, (\d+) undecided, (\d+) of them ")
 _UNDECIDED = re.compile(rb"(\S+) undecided (?:steps|cells)")
-# What the reply of a shard answers.
-_TASK = "shard"
 
 
 @dataclasses.dataclass(frozen=True)
@@ -217,16 +216,15 @@ def walk_shard(machine: str, plan: Plan, reader: VerdictReader, see: Callable[[b
     return "%s below %s %s\n" % (machine, " ".join(counts.groups()), reader.sha256.hexdigest())
 
 
-def decide_shard(line: bytes, plan: Plan) -> ChunkReply:
-    """Does the shard of a machine. The output is a line of fields and the undecided lines. Raises CheckError,
-    RunError."""
+def decide_shard(line: bytes, plan: Plan) -> bytes:
+    """Does the shard of a machine: a line of fields, and the undecided lines. Raises CheckError, RunError."""
     machine, origin = line.decode("ascii").rstrip("\n"), plan.origin()
     began, reader = time.monotonic(), VerdictReader(plan)
     stated = walk_shard(machine, plan, reader, lambda block: None)
     seconds = time.monotonic() - began
     fields = {"line": stated, **reader.fields(), "verdict_bytes": reader.size, "seconds": round(seconds, 3)}
     header = json.dumps({"of": origin, **fields}).encode("ascii") + b"\n"
-    return reply_of(_TASK, line, b"".join([header, *reader.holdouts]), seconds)
+    return b"".join([header, *reader.holdouts])
 
 
 class DamagedError(Exception):
@@ -249,7 +247,8 @@ class ShardFolder:
             self.store = Store(self._top.subdirectory(SHARDS), self.plan.origin())
             stack.callback(self.store.close)
             # Locks of shards under way; shards whose results are damaged, and those that ever were.
-            self.claims = stack.enter_context(contextlib.ExitStack())
+            self._locks: dict[str, contextlib.ExitStack] = {}
+            stack.callback(self._release_all)
             self._damaged: set[str] = set()
             self._again: set[str] = set()
             # It guards the locks while a run ends.
@@ -261,17 +260,25 @@ class ShardFolder:
         self._top.require_name()
         self.store.folder.require_name()
 
-    def machines(self) -> Iterator[tuple[str, bool]]:
-        """The machines of the skeleton, in walk order, each with whether it is a shard. Raises FolderError if they
-        aren't those of the plan, OSError."""
+    def _read_machines(self) -> bytes:
+        """The lines of the machines. Raises FolderError if they aren't those of the plan, OSError."""
         with open(self._top.open_file(MACHINES, os.O_RDONLY), "rb") as file:
             lines = file.read()
         if hashlib.sha256(lines).hexdigest() != self._machines:
             how = "remove it, and resume, which lists them again"
             raise FolderError("%s was cut or changed; %s" % (self._top.at(MACHINES), how))
-        for line in lines.decode("ascii").splitlines():
+        return lines
+
+    def machines(self) -> Iterator[tuple[str, bool]]:
+        """The machines of the skeleton, in walk order, each with whether it is a shard. Raises FolderError, OSError."""
+        for line in self._read_machines().decode("ascii").splitlines():
             machine, *below = line.split()
             yield machine, bool(below)
+
+    def has_shard(self, machine: str) -> bool:
+        """Whether a machine is that of a shard, in a fraction of the time that reading all of them takes."""
+        line = os.fsencode("\n%s below\n" % machine)
+        return machine.split() == [machine] and line in b"\n" + self._read_machines()
 
     def shards(self) -> list[str]:
         return [machine for machine, is_shard in self.machines() if is_shard]
@@ -318,6 +325,21 @@ class ShardFolder:
         self.require_name()
         self._damaged.discard(machine)
 
+    def claim(self, machine: str, waits: bool = True) -> bool:
+        """Has the lock of a shard; or not, if another process has it and this one doesn't wait."""
+        lock = contextlib.ExitStack()
+        if not lock.enter_context(self.store.claim(machine, waits)):
+            return False
+        self._locks[machine] = lock
+        return True
+
+    def release(self, machine: str) -> None:
+        self._locks.pop(machine).close()
+
+    def _release_all(self) -> None:
+        for machine in list(self._locks):
+            self.release(machine)
+
     def do(
         self,
         machines: Iterable[str],
@@ -328,11 +350,11 @@ class ShardFolder:
         """Does shards. Raises CheckError, FolderError, RunError, OSError."""
         self._is_ended = False
         try:
-            Dispatcher(backend, progress, lambda: None, finish).run(self._tasks(machines))
+            Dispatcher(backend, progress, "shards", finish).run(self._tasks(machines))
         finally:
             with self._guard:
                 self._is_ended = True
-                self.claims.close()
+                self._release_all()
 
     def _tasks(self, machines: Iterable[str]) -> Iterator[ShardTask]:
         """A task for each shard, with its lock; those that other processes have come last."""
@@ -342,28 +364,28 @@ class ShardFolder:
             with self._guard:
                 if self._is_ended:
                     return
-                task = ShardTask.claim(self, machine, waits=False)
-            if task is None:
-                taken.append(machine)
+                is_free = self.claim(machine, waits=False)
+            if is_free:
+                yield ShardTask(self, machine)
             else:
-                yield task
+                taken.append(machine)
         if taken:
             self._report("waiting for %d shards that other processes do" % len(taken))
         for machine in taken:
-            yield from filter(None, [ShardTask.claim(self, machine)])
+            self.claim(machine)
+            yield ShardTask(self, machine)
 
     def do_shard(self, machine: str) -> str:
         """The line of a shard, which is done unless it is finished. Raises FolderError, CheckError, RunError."""
-        task = ShardTask.claim(self, machine)
-        assert task is not None
-        if (request := task.request()) is not None:
-            task.accept(request.task(request.lines, request.options))
+        self.claim(machine)
+        task = ShardTask(self, machine)
+        request = task.request()
+        task.accept(None if request is None else do_here(request))
         return self.line(machine) or ""
 
     def verify(self, machines: Sequence[str], backend: Backend, progress: TerminalLine) -> None:
         """Does shards again, and compares them with their results. Raises CheckError for another one."""
-        tasks = (VerifyTask(self, machine, None) for machine in machines)
-        Dispatcher(backend, progress, lambda: None, lambda task: None).run(tasks)
+        Dispatcher(backend, progress, "shards").run(VerifyTask(self, machine) for machine in machines)
 
     def join(self, verified: dict[str, int] | None = None) -> str:
         """Writes skeleton, holdouts, summary; returns the line of `cover`. `verified` is what was done again. Raises
@@ -427,21 +449,10 @@ class ShardFolder:
 
 
 class ShardTask(Assignment):
-    """A shard that is to be done and stored, and its lock."""
+    """A shard that is to be done and stored, whose lock this process has."""
 
-    plural = "shards"
-
-    def __init__(self, folder: ShardFolder, machine: str, lock: contextlib.ExitStack | None) -> None:
-        self.folder, self.machine, self._lock = folder, machine, lock
-
-    @classmethod
-    def claim(cls, folder: ShardFolder, machine: str, waits: bool = True) -> ShardTask | None:
-        """A task with its lock; None if another process has it and this one doesn't wait."""
-        lock = contextlib.ExitStack()
-        if not lock.enter_context(folder.store.claim(machine, waits)):
-            return None
-        folder.claims.callback(lock.close)
-        return cls(folder, machine, lock)
+    def __init__(self, folder: ShardFolder, machine: str) -> None:
+        self.folder, self.machine = folder, machine
 
     def request(self) -> Request | None:
         """Nothing if another process has done it meanwhile."""
@@ -449,17 +460,15 @@ class ShardTask(Assignment):
             return None
         return Request(decide_shard, self.machine.encode("ascii") + b"\n", self.folder.plan)
 
-    def accept(self, reply: object) -> bool:
-        if reply is not None:
-            self.folder.write(self.machine, self._open(reply))
-        if self._lock is not None:
-            self._lock.close()
+    def accept(self, output: Output | None) -> bool:
+        if output is not None:
+            self.folder.write(self.machine, self._result_of(output))
+        self.folder.release(self.machine)
         return True
 
-    def _open(self, reply: object) -> Result:
-        """The result of a reply. Raises ReplyError unless it is a shard of the same plan and programs."""
-        written, _ = open_reply(reply, identity(), _TASK, self.machine.encode("ascii") + b"\n")
-        header, _, holdouts = written.partition(b"\n")
+    def _result_of(self, output: Output) -> Result:
+        """The result of an output. Raises ReplyError unless it is a shard of the same plan and programs."""
+        header, _, holdouts = output.written.partition(b"\n")
         try:
             fields = read_json(header.decode("ascii"))
         except ValueError as error:
@@ -483,8 +492,9 @@ class VerifyTask(ShardTask):
     def request(self) -> Request:
         return Request(decide_shard, self.machine.encode("ascii") + b"\n", self.folder.plan)
 
-    def accept(self, reply: object) -> bool:
-        again = Shard.of_result(self.machine, self.folder.plan, self._open(reply))
+    def accept(self, output: Output | None) -> bool:
+        assert output is not None
+        again = Shard.of_result(self.machine, self.folder.plan, self._result_of(output))
         stored = self.folder.read(self.machine)
         for name in ("line", "size", "holdouts"):
             if getattr(again, name) != getattr(stored, name):
@@ -508,14 +518,8 @@ def draw(machines: Sequence[str], share: float, seed: int) -> list[str]:
 def write_file(top: Directory, name: str, blocks: Iterable[bytes]) -> str:
     """Writes or replaces a file of the folder, whole or not at all; returns its sha256. Raises RunError, OSError."""
     sha256 = hashlib.sha256()
-
-    def hashed() -> Iterator[bytes]:
-        for block in blocks:
-            sha256.update(block)
-            yield block
-
     with contextlib.closing(FileTarget(top, name)) as target:
-        target.write(lambda number: write_blocks(number, hashed()))
+        target.write(hash_blocks(blocks, sha256))
     return sha256.hexdigest()
 
 
@@ -584,8 +588,7 @@ def digests(plan: Plan) -> dict[str, str]:
     pipe, found = [plan.list_command()], {}
     for name in ("list", "verdicts"):
         sha256 = hashlib.sha256()
-        for block in pipe_blocks(pipe):
-            sha256.update(block)
+        collections.deque(hash_blocks(pipe_blocks(pipe), sha256), maxlen=0)
         found[name] = sha256.hexdigest()
         pipe.append([DECIDER, "decide", *plan.options()])
     return found

@@ -4,17 +4,17 @@ from __future__ import annotations
 
 import collections
 import dataclasses
-import io
 import re
-from typing import Callable, Iterator, NamedTuple, Sequence
+from typing import Callable, Iterator, NamedTuple, Sequence, TypeVar
 
 from ._calls import BinaryReader, whole_lines
 from ._library import cost_of_check
 from ._text import LONGEST_SHOWN
-from .engine import Call, answer_file, check_call, decide, recurrence_call
+from .engine import check, decide, recurrences
 from .limits import Limits, Plan
 from .verdicts import Answer, Backward, Cycler, Halt, RecurrenceReply, Translated, Verdict, parse
-from .verdicts import parse_recurrence
+
+Found = TypeVar("Found")
 
 # With so few cells a call costs little.
 FEW_CELLS = 65_536
@@ -75,11 +75,9 @@ def cost_of_file(file: BinaryReader, limits: Limits) -> CheckCost:
     """The most that checking a file can cost under these limits, from the numbers in its lines."""
     cost, before = CheckCost(0, 0, 0, 0), 0
     for lines in whole_lines(iter(lambda: file.read(_BLOCK), b"")):
-        more = cost_of_check(limits.numbers(), lines)
-        dearest = (cost.most, cost.number)
-        if more.most > cost.most:
-            dearest = (more.most, before + more.line + 1)
-        cost = CheckCost(cost.steps + more.steps, cost.nodes + more.nodes, *dearest)
+        steps, nodes, most, line = cost_of_check(limits.numbers(), lines)
+        dearest = (most, before + line + 1) if most > cost.most else (cost.most, cost.number)
+        cost = CheckCost(cost.steps + steps, cost.nodes + nodes, *dearest)
         before += lines.count(b"\n")
     return cost
 
@@ -138,30 +136,21 @@ def _wrong_part(verdict: Verdict, limits: Limits) -> str:
 
 
 def answers_of(claims: Sequence[Verdict], limits: Limits, threads: int) -> list[Answer]:
-    return list(map(Answer, _replies_to(claims, check_call, limits, threads)))
+    return _replies_to(claims, check, limits, threads)
 
 
 def recurrences_of(claims: Sequence[Verdict], limits: Limits, threads: int) -> list[RecurrenceReply]:
-    return list(map(parse_recurrence, _replies_to(claims, recurrence_call, limits, threads)))
+    return _replies_to(claims, recurrences, limits, threads)
 
 
 def _replies_to(
-    claims: Sequence[Verdict], call: Callable[[Limits], Call], limits: Limits, threads: int
-) -> list[str]:
+    claims: Sequence[Verdict], call: Callable[..., Iterator[Found]], limits: Limits, threads: int
+) -> list[Found]:
     """The reply to each claim. Claims that need more than a few cells are checked twice."""
     depth = min(limits.depth, FEW_CELLS // 2)
     few = Limits(limits.steps, min(limits.cells, FEW_CELLS), depth, limits.nodes)
-    replies = list(_replies(claims, call(few), few, threads))
-    if few == limits:
-        return replies
-    over = [place for place, reply in enumerate(replies) if reply == str(Answer.OVER)]
-    more = _replies([claims[place] for place in over], call(limits), limits, threads) if over else ()
-    for place, reply in zip(over, more):
+    replies = list(call(claims, few, threads=threads))
+    over = [place for place, reply in enumerate(replies) if reply is Answer.OVER and few != limits]
+    for place, reply in zip(over, call([claims[place] for place in over], limits, threads=threads)):
         replies[place] = reply
     return replies
-
-
-def _replies(claims: Sequence[Verdict], call: Call, limits: Limits, threads: int) -> Iterator[str]:
-    lines = "".join("%s\n" % claim for claim in claims).encode()
-    for _, replies in answer_file(io.BytesIO(lines), call, limits, threads=threads):
-        yield from replies.decode().splitlines()

@@ -31,12 +31,12 @@ threading.Thread(target=collect, daemon=True).start()
 """
 # Workers that can't decide anything rightly: what the run says of them, and the file of their package that is
 # changed, with the texts; they have none where no file is named.
-ODD = [("Counts = dict", "class Odd: pass\nCounts = dict"), ("return (written,", "return (Odd(),")]
+ODD = [("def digest_of", "class Odd: pass\n\ndef digest_of"), ("return (written,", "return (Odd(),")]
 WRONG_WORKERS: dict[str, tuple[str, str, list[tuple[str, str]]]] = {
     "nothing": ("No module named 'budlarem'", "", []),
     "another version": ("it was decided by version 9.", "_version.py", [('VERSION = "', 'VERSION = "9.')]),
-    "garbage": ("came back for", "runner/chunks.py", [("return call(lines).text", 'return b"x\\n"')]),
-    "a reply that can't be read": ("AttributeError: ", "runner/chunks.py", ODD),
+    "garbage": ("came back for", "runner/chunks.py", [("return decide_call", 'return b"x\\n"; decide_call')]),
+    "a reply that can't be read": ("AttributeError: ", "runner/replies.py", ODD),
 }
 # A list, and the verdicts of one process for each pass.
 Given = tuple[bytes, bytes]
@@ -68,8 +68,8 @@ def quick_list(bb: str, count: int, seed: int) -> bytes:
     return b"".join(one for one, line in zip(given, lines) if b" undecided " not in line)
 
 
-def require_end(case: Case, status: int, right: bytes) -> None:
-    assert status == 1 and case.verdicts() == right, case.output()
+def require_end(case: Case, process: Process, right: bytes) -> None:
+    assert process.wait() == 1 and case.verdicts() == right, case.output()
 
 
 def require_sentence(case: Case, process: Process, text: str) -> None:
@@ -91,9 +91,7 @@ def test_killed_worker(bb: str, tmp_path: pathlib.Path, lines: int) -> None:
             assert wait_until(process, is_one_at_work), case.output()
             for worker in at_work[:1]:
                 worker.kill()
-            status = process.wait()
-        right = expected_verdicts(bb, case.list.read_bytes(), (QUICK_PASS, LONG_PASS))
-        require_end(case, status, right)
+        require_end(case, process, expected_verdicts(bb, case.list.read_bytes(), (QUICK_PASS, LONG_PASS)))
         assert "page is at http://127.0.0.1:" in case.output(), case.output()
 
 
@@ -109,9 +107,8 @@ def test_five_kills(bb: str, tmp_path: pathlib.Path) -> None:
                 assert wait_until(process, lambda: is_at_work(worker.pid)), case.output()
                 found.kill_workers()
             found.start_worker()
-            status = process.wait()
         assert "bisecting" in case.output(), case.output()
-        require_end(case, status, expected_verdicts(bb, case.list.read_bytes(), [LONG_PASS]))
+        require_end(case, process, expected_verdicts(bb, case.list.read_bytes(), [LONG_PASS]))
 
 
 @pytest.mark.slow
@@ -119,7 +116,7 @@ def test_deadly_line(bb: str, tmp_path: pathlib.Path) -> None:
     """A line ends each worker that decides it: it is named, and all other chunks stand."""
     quick = quick_list(bb, 60, 4)
     with cluster(0, tmp_path) as found:
-        call = "    return _make_reply(describe_task(DECIDE"
+        call = "    return decide_call("
         deadly = changed_package(found.top, "runner/chunks.py", [(call, DEADLY + call)])
         case = case_of(found, "deadly", quick + LONG_MACHINE + quick, (QUICK_PASS,))
         with case.start(str(case.list), "--chunk", "8") as process:
@@ -145,8 +142,7 @@ def test_no_workers(many: Given, tmp_path: pathlib.Path) -> None:
                 found.kill_workers()
             require_sentence(case, process, "has no workers; waiting")
             found.start_worker()
-            status = process.wait()
-        require_end(case, status, right)
+        require_end(case, process, right)
 
 
 @pytest.mark.slow
@@ -163,8 +159,7 @@ def test_scheduler(many: Given, tmp_path: pathlib.Path, is_late: bool) -> None:
             require_sentence(case, process, "there is no scheduler" if is_late else "doesn't answer; waiting")
             found.start_scheduler()
             found.start_worker()
-            status = process.wait()
-        require_end(case, status, right)
+        require_end(case, process, right)
 
 
 @pytest.mark.slow

@@ -18,8 +18,9 @@ from budlarem.counts import VerdictCounts
 from budlarem.verdicts import size_of
 from support import TOP, ListMachines, restore_signals
 from support.machines import entries_of
-from support.program import as_lines, options_of_pass, run_command
+from support.program import as_lines, options_of_pass, replies, run_command
 from support.recurrences import reply_to_pair
+from support.runs import wait_until
 from support.shards import counts_in
 
 sys.path.insert(0, str(TOP))
@@ -44,7 +45,7 @@ def start(out: pathlib.Path, *words: str) -> subprocess.Popen[bytes]:
 def require_end(process: subprocess.Popen[bytes], status: int = 0, sentence: str = "") -> str:
     """Requires a process to end with this status and a sentence on standard error; what it printed."""
     output, error = (text.decode() for text in process.communicate(timeout=600))
-    assert process.returncode == status and sentence in error, error
+    assert process.returncode == status and sentence in error and "Traceback" not in error, error
     return output
 
 
@@ -58,11 +59,6 @@ def result_in(out: pathlib.Path, size: str) -> dict[str, Any]:
     return found
 
 
-def decide_whole(bb: str, machines: list[str], limits: str) -> list[str]:
-    done = run_command([bb, "decide", *options_of_pass(limits)], as_lines(machines))
-    return done.output.decode().splitlines()
-
-
 @pytest.mark.parametrize("size", ["2x2", "2x3", "3x2", pytest.param("4x2", marks=pytest.mark.slow)])
 def test_result_is_that_of_the_list_in_one_piece(
     bb: str, cover: str, list_machines: ListMachines, tmp_path: pathlib.Path, size: str
@@ -70,31 +66,29 @@ def test_result_is_that_of_the_list_in_one_piece(
     require_end(start(tmp_path, *words_of(size)))
     found, (states, symbols) = result_in(tmp_path, size), size.split("x")
     machines = list_machines(int(states), "--symbols", symbols, "--steps", "1000")
-    lines = decide_whole(bb, machines, found["passes"][0]["limits"])
+    lines = replies([bb, "decide", *options_of_pass(found["passes"][0]["limits"])], machines)
     covered = run_command([cover], as_lines(lines)).output.decode().rstrip()
     assert counts_in(found["cover"]) == counts_in(covered)
     digests = [hashlib.sha256(as_lines(each)).hexdigest() for each in (machines, lines)]
     assert [found["sha256"][name] for name in ("list", "verdicts")] == digests
     holdouts = [line.split(" ")[0] for line in lines if " undecided " in line]
     for one in found["passes"][1:]:
-        later = decide_whole(bb, holdouts, one["limits"])
+        later = replies([bb, "decide", *options_of_pass(one["limits"])], holdouts)
         assert one["lines"] == len(holdouts)
         lines += [line for line in later if " undecided " not in line]
         holdouts = [line.split(" ")[0] for line in later if " undecided " in line]
     written = (tmp_path / size / "holdouts.txt").read_bytes()
     assert (written, found["holdouts"]) == (as_lines(holdouts), len(holdouts))
     assert found["sha256"]["holdouts"] == hashlib.sha256(written).hexdigest()
-    kinds = collections.Counter(line.split(" ")[1] for line in lines)
-    assert {kind: found["counts"][kind] for kind in kinds if kind != "undecided"} == {
-        kind: count for kind, count in kinds.items() if kind != "undecided"
-    }
+    kinds = collections.Counter(line.split(" ")[1] for line in lines if " undecided " not in line)
+    assert {kind: found["counts"][kind] for kind in kinds} == kinds
     require_recurrences(found["recurrences"], lines)
     if size == "4x2":
         return
     filled = [machine for line in lines if " halt " in line for machine in completions_of(line.split(" ")[0])]
     completed = found["recurrences"]["completions"]
     limits = [*options_of_pass(completed["passes"][-1]), "--no-backward"]
-    lines = run_command([bb, "decide", *limits], as_lines(filled)).output.decode().splitlines()
+    lines = replies([bb, "decide", *limits], filled)
     require_recurrences(completed, lines)
     holdouts = [line.split(" ")[0] for line in lines if " undecided " in line]
     assert (completed["lines"], completed["undecided"]) == (len(filled), len(holdouts))
@@ -103,13 +97,13 @@ def test_result_is_that_of_the_list_in_one_piece(
 
 def require_recurrences(found: dict[str, Any], lines: list[str]) -> None:
     """Requires the counts and greatest numbers to be those of a brute force over each pair of these lines."""
-    replies = [reply_to_pair(line) for line in lines if line.split(" ")[1] in ("cycler", "translated")]
-    quasihalts = [reply for reply in replies if " quasihalts " in reply]
+    recurrences = [reply_to_pair(line) for line in lines if line.split(" ")[1] in ("cycler", "translated")]
+    quasihalts = [reply for reply in recurrences if " quasihalts " in reply]
     kinds = {kind: found["counts"][kind] for kind in ("recurs", "quasihalts")}
-    assert kinds == {"recurs": len(replies), "quasihalts": len(quasihalts)}
+    assert kinds == {"recurs": len(recurrences), "quasihalts": len(quasihalts)}
     for place, name in ((2, "start"), (3, "period"), (4, "shift"), (-1, "quasihalts")):
         most, line = found["greatest"][name]
-        those = quasihalts if place < 0 else replies
+        those = quasihalts if place < 0 else recurrences
         assert most == max(abs(int(reply.split(" ")[place])) for reply in those)
         assert line in those and most == abs(int(line.split(" ")[place]))
 
@@ -180,20 +174,15 @@ def test_interruption(tmp_path: pathlib.Path) -> None:
     """It is ended by a signal after some shards, with all that it runs; the same command resumes it."""
     words = words_of("3x2")
     process, shards = start(tmp_path, *words), tmp_path / "3x2" / "walk" / "shards"
-    until = time.monotonic() + 300
-    while len(finished_shards(shards)) < 5 and process.poll() is None and time.monotonic() < until:
-        time.sleep(0.01)
+    wait_until(process, lambda: len(finished_shards(shards)) >= 5)
     os.kill(process.pid, signal.SIGINT)
     require_end(process, 130, "resumes")
     finished = finished_shards(shards)
-    for _ in range(50):
-        try:
+    # Nothing that it ran is left.
+    with pytest.raises(ProcessLookupError):
+        for _ in range(50):
             os.killpg(process.pid, 0)
-        except ProcessLookupError:
-            break
-        time.sleep(0.1)
-    else:
-        pytest.fail("something that it ran is left")
+            time.sleep(0.1)
     require_end(start(tmp_path, *words))
     assert result_in(tmp_path, "3x2")["lines"] == MACHINES["3x2"]
     assert len(finished) >= 5
@@ -218,29 +207,21 @@ def test_holdouts_and_results_that_were_changed(tmp_path: pathlib.Path) -> None:
     output = require_end(start(tmp_path, *words), 1, "result.json has other holdouts, of sha256 ")
     assert output == "%s  %s\n" % (hashlib.sha256(holdouts.read_bytes()).hexdigest(), holdouts)
     text = result.read_text()
-    changed = [
-        text[: len(text) // 2],
-        "null",
-        "[" * 100_000,
-        "{}",
-        text.replace('"lines": ', '"lines": Infinity, "a": '),
-    ]
-    for one in (*changed, json.dumps({**json.loads(text), "sha256": None})):
-        result.write_text(one)
-        process = start(tmp_path, *words)
-        error = process.communicate(timeout=600)[1].decode()
-        assert process.returncode == 2 and "result.json was cut or changed: " in error, error
-        assert error.count("\n") == 1, error
-    for name, one in (("recurrences", "{}"), ("seconds", '{"walk": null}'), ("digests", "[")):
+    changed = [text[: len(text) // 2], "null", "[" * 100_000, "{}"]
+    changed += [text.replace('"lines": ', '"lines": Infinity, "a": ')]
+    cases = [("result", one) for one in (*changed, json.dumps({**json.loads(text), "sha256": None}))]
+    cases += [("recurrences", "{}"), ("seconds", '{"walk": null}'), ("digests", "[")]
+    for name, one in cases:
         path = tmp_path / "2x2" / (name + ".json")
-        text = path.read_text()
+        before = path.read_text()
+        result.unlink()
         path.write_text(one)
-        result.unlink(missing_ok=True)
         process = start(tmp_path, *words)
         error = process.communicate(timeout=600)[1].decode()
         assert process.returncode == 2 and " was cut or changed: " in error.splitlines()[-1], error
-        assert "Traceback" not in error, error
-        path.write_text(text)
+        assert "Traceback" not in error and (name != "result" or error.count("\n") == 1), error
+        path.write_text(before)
+        result.write_text(text)
 
 
 def test_refusals(tmp_path: pathlib.Path) -> None:

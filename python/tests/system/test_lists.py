@@ -1,6 +1,7 @@
 """Lists as people have them, what `budlarem check` answers to them, and what `judge` says of them."""
 
 import gzip
+import itertools
 import json
 import os
 import pathlib
@@ -14,22 +15,19 @@ import budlarem
 import pytest
 from budlarem import Form, Halt, Judgement, Limits, Undecided, Verdict
 from budlarem.normal_forms import forms_of
-from support import TOP
+from support import TOP, read_blocks
 from support.claims import with_other_number
-from support.machines import CHAMPION, mixed_machines, uniform
-from support.program import CommandResult, as_lines, on_terminal, options, run_command
+from support.machines import CHAMPION, HALT, mixed_machines, uniform
+from support.program import as_lines, decide_machines, on_terminal, options, replies, run_command
+from support.program import run_package
 
 FORMS = json.loads((TOP / "tests" / "support" / "forms.json").read_text(encoding="utf-8"))
-DOCUMENT = TOP / "docs" / "budlarem.md"
+DOCUMENT = "docs/budlarem.md"
 LIMITS = (2_000, 512, 30, 1_000)
 GREATEST = [highest for _, highest in Limits.RANGES.values()]
 # How a machine may stand on a line.
 AROUND = ["%s", "17. %s", "%s halt 6 4", "a,%s,b", "`%s`", "  %s\r", "x;%s;nonhalt", "| %s | %s |"]
 AROUND += ["[%s](https://bbchallenge.org/%s)", "https://bbchallenge.org/%s"]
-
-
-def command(*asked: str, given: bytes = b"") -> CommandResult:
-    return run_command([sys.executable, "-m", "budlarem", *asked], given)
 
 
 def test_columns(bb: str) -> None:
@@ -46,7 +44,7 @@ def test_lists(tmp_path: pathlib.Path) -> None:
     assert min(len(FORMS["lists"]), len(FORMS["judged"])) >= 15
     for entry in FORMS["lists"]:
         for name, form in {"read": entry["form"], "judge": entry.get("claims", entry["form"])}.items():
-            error = command(name, "-", given=as_lines(entry["lines"])).error.decode()
+            error = run_package(name, "-", given=as_lines(entry["lines"])).error.decode()
             printed = re.search("form ([a-z]+)", error)
             assert (None if printed is None else printed[1]) == form, entry["lines"]
     for entry in FORMS["judged"]:
@@ -56,10 +54,12 @@ def test_lists(tmp_path: pathlib.Path) -> None:
             more += ["--steps-column" if role == "steps" else "--" + role, column]
         words = ["judge", "-", "--words", str(tmp_path / "words.txt"), *more]
         before = entry.get("times", 1) - 1
-        output = command(*words, given=as_lines(entry["lines"][:1] * before + entry["lines"])).output.decode()
-        rows = [line.split("\t") for line in output.splitlines()[before:]]
+        found = run_package(*words, given=as_lines(entry["lines"][:1] * before + entry["lines"]))
+        rows = [line.split("\t") for line in found.output.decode().splitlines()[before:]]
         assert [row[0] for row in rows] == entry["judgements"], entry
         assert {*entry.get("reasons", ())} <= {row[3] for row in rows}, entry
+        assert entry.get("error", "") in found.error.decode(), entry
+        assert (found.status == 2) == ("error" in entry), entry
 
 
 def test_printed(tmp_path: pathlib.Path) -> None:
@@ -71,26 +71,28 @@ def test_printed(tmp_path: pathlib.Path) -> None:
     wide.write_bytes("\n".join(lines * 9).encode("utf-16"))
     readers: dict[str, list[str]] = dict.fromkeys(("read", "decide", "normal", "judge", "check"), [])
     for name, more in {**readers, "compare": [str(given)], "report": ["--out", page]}.items():
-        status, output, error = command(name, str(given), *more)
+        status, output, error = run_package(name, str(given), *more)
         assert re.search(b"[\x00-\x08\x0b-\x1f\x7f]|\xc2[\x80-\x9f]", output + error) is None
         if name == "check":
             continue
         assert b"form text" in error and b"3 lines skipped: empty lines 1, comments 1" in error, (name, error)
-        assert status != 3
-        status, _, error = command(name, str(wide), *(more if name != "compare" else [str(wide)]))
+        # A refused line is passed over.
+        assert status == 1 and b"list.txt:3: refused: " in error, (name, error)
+        assert name in ("compare", "report") or HALT.encode() in output.splitlines()[-1], (name, output)
+        status, _, error = run_package(name, str(wide), *(more if name != "compare" else [str(wide)]))
         assert (status, error.count(b"UTF-16"), error.count(b"\n")) == (2, 2, 1), (name, error[:300])
     latin = "1RA1RA \u00e9\n1RA1RA \u00fc\n1RA1RA x\n".encode("latin-1")
     for name in ("read", "judge"):
-        error = command(name, "-", given=latin).error
+        error = run_package(name, "-", given=latin).error
         assert error.count(b"UTF-8") == 1 and b"2 lines with bytes that are no UTF-8" in error, (name, error)
-    error = command("judge", "-", "--list", str(given), given=b"1RA1RA\n").error
+    error = run_package("judge", "-", "--list", str(given), given=b"1RA1RA\n").error
     assert b"list.txt: 3 lines skipped" in error and b"list.txt:3: refused: a machine in" in error
 
 
 def test_translation(tmp_path: pathlib.Path) -> None:
     """The words' translation comes first, and a file changes it; numbers with groups are numbers."""
     table = ["machine,halts,steps,score", '%s,Yes,"47,176,870","4,098"' % CHAMPION]
-    table += ["1RA1RA,no,,", "1RA1RA,?,,"]
+    table += ["1RA1RA,no,,", "1RA1RA,NO,,", "1RA1RA,?,,"]
     path, plain, word_file = tmp_path / "table.csv", tmp_path / "plain.txt", tmp_path / "words.txt"
     path.write_bytes(as_lines(table))
     plain.write_bytes(as_lines([CHAMPION + " halt 47'176'870 4098"]))
@@ -99,15 +101,15 @@ def test_translation(tmp_path: pathlib.Path) -> None:
     page = str(tmp_path / "page.html")
     others: dict[str, list[str]] = {"judge": [], "compare": [str(plain)], "report": ["--out", page]}
     for name, more in others.items():
-        lines = command(name, str(path), *more, *given).error.decode().splitlines()
+        lines = run_package(name, str(path), *more, *given).error.decode().splitlines()
         shown = [line.partition(": ")[2] for line in lines if line.startswith(str(path) + ": ")]
-        assert shown[1:4] == ["halting: Yes 1", "never halting: no 1", "nothing: ? 1"]
+        assert shown[1:4] == ["halting: Yes 1", "never halting: no 1, NO 1", "nothing: ? 1"]
     for name, more in {**others, "compare": [str(path)]}.items():
-        assert b"plain.txt: --words is for" in command(name, str(plain), *more, *given).error
-    error = command("compare", str(path), str(plain), *given).error
+        assert b"plain.txt: --words is for" in run_package(name, str(plain), *more, *given).error
+    error = run_package("compare", str(path), str(plain), *given).error
     assert b"agree 1\n" in error and b"contradict 0\n" in error
-    for file, right in ((given, b"confirmed confirmed not-judged"), ((), b"not-judged " * 3)):
-        rows = command("judge", str(path), *file).output.splitlines()
+    for file, right in ((given, b"confirmed confirmed confirmed not-judged"), ((), b"not-judged " * 4)):
+        rows = run_package("judge", str(path), *file).output.splitlines()
         assert [row.partition(b"\t")[0] for row in rows] == right.split()
 
 
@@ -117,32 +119,19 @@ NAMED = ["{{TM|%s|halt}}", "%s | tm", "TM,%s", "! %s !! machine", "| %s || code"
 
 @pytest.mark.parametrize("line", [line % "1RB1LB_1LA1RZ" for line in NAMED])
 def test_lines_with_machines_are_no_headers(line: str) -> None:
-    """Each has its verdict, and its place between two claims."""
-    status, output, error = command("decide", given=as_lines([line]))
+    """Each has its verdict, and its refusal between two claims."""
+    status, output, error = run_package("decide", given=as_lines([line]))
     assert (status, output.partition(b"\t")[0]) == (0, b"1RB1LB_1LA1RZ halt 6 4")
     assert b"skipped" not in error
     claims = ["1RB1LB_1LA1RZ halt 6 4", line, "1RA1RA translated R 1 2"]
-    for lines, first in ((claims, b"confirmed"), ([line, *claims], b"not-judged")):
-        rows = [row.split(b"\t") for row in command("judge", "-", given=as_lines(lines)).output.splitlines()]
-        assert [row[1] for row in rows] == [b"%d" % number for number in range(1, len(lines) + 1)]
-        assert rows[0][0] == first
-    error = command("compare", "-", "/dev/null", given=as_lines(claims)).error
+    error = run_package("compare", "-", "/dev/null", given=as_lines(claims)).error
     assert b"standard input:2: refused: the rest of the line" in error
 
 
 def test_fields_are_kept_as_they_came() -> None:
     for line in ('1RA1RA,"a,b",c', '1RA1RA,a,"b,c"', '1RA1RA;"a""b";', "1RA1RA\t'a'\t\t b"):
-        output = command("decide", given=as_lines(["machine,x", line])).output.decode()
+        output = run_package("decide", given=as_lines(["machine,x", line])).output.decode()
         assert output == "1RA1RA translated R 1 2 1 1\t%s\n" % line[7:]
-
-
-def test_state_tables_are_refused() -> None:
-    """A line for each state isn't read as a machine of one state."""
-    for names in (("q_A", "q_B"), ("A \u2192", "B \u2192"), ("| A |", "| B |"), ("qA:", "qB:"), ("A", "B")):
-        lines = ["%s 1RA1LB" % names[0], "%s 1LA1RZ" % names[1], "%s 1RA1LA" % names[0]]
-        for name in ("read", "normal"):
-            status, output, error = command(name, given=as_lines(lines))
-            assert (status, output, error.count(b": refused: ")) == (1, b"", 3), names
 
 
 def test_long_records_are_refused(tmp_path: pathlib.Path) -> None:
@@ -152,17 +141,17 @@ def test_long_records_are_refused(tmp_path: pathlib.Path) -> None:
     for length, judgement in ((65_540, "unreadable"), (20_000, "unreadable"), (16_000, "contradicted")):
         padding = "x" * (length + 3 - len(record))
         path.write_bytes(as_lines(["machine,verdict,x,steps", record % padding, "1RB1LB_1LA1RZ,halt,,6"]))
-        rows = command("judge", str(path)).output.decode().splitlines()
+        rows = run_package("judge", str(path)).output.decode().splitlines()
         assert [row.split("\t")[0] for row in rows] == [judgement, "confirmed"]
-        status, output, _ = command("decide", str(path))
+        status, output, _ = run_package("decide", str(path))
         assert output.startswith(b"refused" if length > 16_384 else b"1RB1LB_1LA1RZ halt 6 4")
     verdict = "1RB1LB_1LA1RZ halt 6 4\t" + "x" * 70_000
-    assert command("judge", "-", given=as_lines([verdict])).output.startswith(b"unreadable\t1\t")
+    assert run_package("judge", "-", given=as_lines([verdict])).output.startswith(b"unreadable\t1\t")
 
 
 @pytest.mark.parametrize("path", ["/dev/zero", "/dev/urandom"])
 def test_words_that_never_end(path: str) -> None:
-    status, _, error = command("judge", "-", "--words", path, given=b"machine,verdict\n1RA1RA,x\n")
+    status, _, error = run_package("judge", "-", "--words", path, given=b"machine,verdict\n1RA1RA,x\n")
     assert (status, error.count(b"\n")) == (2, 1)
 
 
@@ -176,7 +165,7 @@ def test_empty_lines(tmp_path: pathlib.Path) -> None:
     commands: dict[str, list[str]] = {"read": [], "judge": [], "compare": [str(single)]}
     for name, others in commands.items():
         before = os.times().children_user
-        assert command(name, str(path), *others).status in (0, 1)
+        assert run_package(name, str(path), *others).status in (0, 1)
         spent[name] = os.times().children_user - before
     print("5,000,000 empty lines: %s" % {name: round(took, 2) for name, took in spent.items()})
     assert max(spent.values()) <= spent["read"] + 0.3
@@ -223,7 +212,7 @@ def test_read(bb: str, tmp_path: pathlib.Path) -> None:
     plain.write_bytes(as_lines(lines))
     packed.write_bytes(gzip.compress(as_lines(lines)))
     for name, given in ((str(plain), b""), (str(packed), b""), ("-", as_lines(lines))):
-        status, output, error = command("read", name, given=given)
+        status, output, error = run_package("read", name, given=given)
         assert (status, output) == (1, right)
         shown, printed = "standard input" if name == "-" else name, error.decode("utf-8", "surrogateescape")
         for one in refused[:50]:
@@ -231,7 +220,7 @@ def test_read(bb: str, tmp_path: pathlib.Path) -> None:
         assert len(printed.splitlines()) > len(refused), name
     decided = run_command([bb, "decide", *options(LIMITS)], right)
     assert b"refused" not in decided.output
-    assert command("decide", *options(LIMITS), given=right)[:2] == (0, decided.output)
+    assert run_package("decide", *options(LIMITS), given=right)[:2] == (0, decided.output)
 
 
 def test_check(bb: str, rng: random.Random, tmp_path: pathlib.Path) -> None:
@@ -244,7 +233,7 @@ def test_check(bb: str, rng: random.Random, tmp_path: pathlib.Path) -> None:
         (tmp_path / "claims.txt.gz").write_bytes(gzip.compress(given))
         for asked, more in (([str(tmp_path / "claims.txt.gz")], b""), (["--threads", "3"], given)):
             words = asked if row is GREATEST else [*asked, *options(row)]
-            status, output, error = command("check", *words, given=more)
+            status, output, error = run_package("check", *words, given=more)
             assert (status, output) == right[:2]
             # Standard error has the counts and the first line that isn't confirmed.
             answers, printed = right.output.decode().splitlines(), error.decode()
@@ -258,7 +247,7 @@ def test_trace(bb: str) -> None:
     for machine in (*mixed_machines(5, 1), "1rB", ""):
         for more in (["--upto", "50"], ["--upto", "2000", "--cells", "7"]):
             right = run_command([bb, "trace", *more, "--", machine])
-            assert command("trace", *more, "--", machine)[:2] == right[:2]
+            assert run_package("trace", *more, "--", machine)[:2] == right[:2]
 
 
 def verdicts_of(count: int) -> Sequence[Verdict]:
@@ -275,7 +264,7 @@ def test_forged_claims(bb: str, rng: random.Random, count: int) -> None:
     judged = budlarem.judge(claims, limits=limits, threads=2)
     assert {one.judgement for one in judged} == {Judgement.CONFIRMED}
     lines = [with_other_number(claim, rng) for claim in rng.sample(claims, len(claims))] + claims
-    answers = run_command([bb, "check", *options(GREATEST)], as_lines(lines)).output.decode().splitlines()
+    answers = replies([bb, "check", *options(GREATEST)], lines)
     judging = budlarem.judge(lines, limits=limits, undefined_steps=False, threads=2)
     right = ["confirmed" if answer == "ok" else "contradicted" for answer in answers]
     missed = [row for row in zip(lines, right, judging) if str(row[2].judgement) != row[1]]
@@ -298,7 +287,7 @@ def test_words(line: str, rng: random.Random) -> None:
 
 
 def test_table() -> None:
-    text = DOCUMENT.read_text(encoding="utf-8")
+    text = (TOP / DOCUMENT).read_text(encoding="utf-8")
     table = text.partition("| It says | Words |\n")[2].partition("\n\n")[0]
     words = {word for row in table.splitlines()[1:] for word in row.split("|")[2].replace(",", " ").split()}
     assert words == set(budlarem.WORDS)
@@ -308,17 +297,16 @@ def test_undefined_steps(bb: str) -> None:
     """Halts that count a step for an undefined entry are found out, and confirmed; the command says so."""
     verdicts = [verdict for verdict in verdicts_of(1_000) if isinstance(verdict, Halt)]
     machines = [verdict.machine.replace("---", "1RZ") for verdict in verdicts]
-    decided = run_command([bb, "decide", *options((LIMITS[0] + 1, *LIMITS[1:]))], as_lines(machines)).output
-    more = [line.partition(" ")[2] for line in decided.decode().splitlines()]
+    more = decide_machines(bb, machines, *options((LIMITS[0] + 1, *LIMITS[1:])))
     lines = ["%s %s" % (verdict.machine, one) for verdict, one in zip(verdicts, more)]
     changed = sum(line != str(verdict) for line, verdict in zip(lines, verdicts))
-    status, output, error = command("judge", "-", given=as_lines(lines))
+    status, output, error = run_package("judge", "-", given=as_lines(lines))
     kinds = {line.split(b"\t")[0] for line in output.splitlines()}
     assert (status, kinds) == (0, {b"confirmed"}) and b"a step is counted for each ---" in error
     assert changed > 9
     mixed_lines = [*lines, next(str(v) for line, v in zip(lines, verdicts) if line != str(v))]
     for asked, count in ((["-"], changed), (["--undefined-steps", "-"], 1)):
-        status, output, _ = command("judge", *asked, given=as_lines(mixed_lines))
+        status, output, _ = run_package("judge", *asked, given=as_lines(mixed_lines))
         assert (status, output.count(b"contradicted\t")) == (1, count)
 
 
@@ -360,10 +348,8 @@ def test_progress(tmp_path: pathlib.Path) -> None:
 
 
 def examples() -> Iterator[tuple[str, str]]:
-    text = DOCUMENT.read_text(encoding="utf-8")
-    for block in re.findall(r"(?:^    .*\n)+", text, re.MULTILINE):
-        lines = [line[4:] for line in block.splitlines()]
-        for part in re.split(r"^\$ ", "\n".join(lines), flags=re.MULTILINE)[1:]:
+    for block in itertools.chain.from_iterable(read_blocks(DOCUMENT).values()):
+        for part in re.split(r"^\$ ", block, flags=re.MULTILINE)[1:]:
             asked, _, written = part.partition("\n")
             yield asked, written.rstrip("\n")
 
@@ -376,10 +362,10 @@ def test_examples(programs: pathlib.Path, tmp_path: pathlib.Path, monkeypatch: p
     for asked, written in shown:
         assert run_command(["sh", "-c", script + asked]).output.decode().rstrip("\n") == written
     for name in ("read", "check", "recurrence", "trace", "judge", "decide"):
-        first, second = command("help", name), command(name, "--help")
+        first, second = run_package("help", name), run_package(name, "--help")
         assert first[:2] == second[:2] and first.status == 0 and b"Column" in first.output, name
         assert all(len(line) < 80 for line in first.output.splitlines()), name
-    assert command("help")[:2] == command("--help")[:2]
+    assert run_package("help")[:2] == run_package("--help")[:2]
 
 
 COSTS = """1RB1LB_1LA1RZ halt 6 4
@@ -396,12 +382,14 @@ no verdict
 
 def test_cost_of_a_forged_claim() -> None:
     """Nothing is checked; the sums and the line are those that a reader adds up."""
-    result = command("check", "--cost", given=COSTS.encode())
+    result = run_package("check", "--cost", given=COSTS.encode())
     expected = "standard input: at most 1,000,000,000,210 steps and 900 nodes; the most on line 9: 1,000,000,000,000\n"
     assert (result.status, result.output.decode(), result.error) == (0, expected, b"")
-    few = command("check", "--cost", "--steps", "100", "--nodes", "10", given=COSTS.encode() + b"x" * 5000)
+    few = run_package(
+        "check", "--cost", "--steps", "100", "--nodes", "10", given=COSTS.encode() + b"x" * 5000
+    )
     assert few.output.decode() == "standard input: at most 10 steps and 0 nodes; the most on line 1: 6\n"
-    nothing = command("check", "--cost", given=b"refused 1\n\n")
+    nothing = run_package("check", "--cost", given=b"refused 1\n\n")
     assert nothing.output == b"standard input: at most 0 steps and 0 nodes\n"
 
 
@@ -411,7 +399,7 @@ def test_cost_over_blocks(tmp_path: pathlib.Path) -> None:
     lines[70_000] = lines[90_000] = "1RA1RA cycler 3 77\n"
     path = tmp_path / "list.gz"
     path.write_bytes(gzip.compress("".join(lines).encode()))
-    result = command("check", "--cost", str(path))
+    result = run_package("check", "--cost", str(path))
     expected = "at most 720,142 steps and 0 nodes; the most on line 70,001: 77\n"
     assert (result.status, result.output.decode()) == (0, "%s: %s" % (path, expected))
 
@@ -420,11 +408,11 @@ def test_unreadable_lines_of_a_judged_list(tmp_path: pathlib.Path) -> None:
     """They are on standard error with file and number, and in the status; a refusal is read, and no such line."""
     path, halt = tmp_path / "claims.txt", "1RB1LB_1LA1RZ halt 6 4\n"
     path.write_text(halt + "1RB1LB_1LA1R halt 6 4\nrefused 3\n")
-    status, output, error = command("judge", str(path), "--form", "verdicts")
+    status, output, error = run_package("judge", str(path), "--form", "verdicts")
     assert status == 1 and b"unreadable 2" in error and output.count(b"\n") == 3
     assert ["%s:2: refused: " % path in line for line in error.decode().splitlines()].count(True) == 1
     path.write_text(halt + "refused 3\n")
-    status, _, error = command("judge", str(path), "--form", "verdicts")
+    status, _, error = run_package("judge", str(path), "--form", "verdicts")
     assert status == 0 and b"unreadable 1" in error and b"refused" not in error
 
 
@@ -441,6 +429,6 @@ def test_a_list_without_verdicts_is_one_error(
     path, page = tmp_path / "list.txt", tmp_path / "page.html"
     path.write_text("".join(line + "\n" for line in lines))
     for words in (["report", str(path), "--out", str(page)], ["compare", str(path), str(path)]):
-        status, output, error = command(*words)
+        status, output, error = run_package(*words)
         assert (status, output, page.exists()) == (2, b"", False)
         assert len(error.splitlines()) < 5 and sentence in error.decode(), error

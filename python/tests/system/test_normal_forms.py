@@ -1,17 +1,18 @@
 """`normal` over complete lists, machines in other names, and the command."""
 
 import random
-import sys
 
 import budlarem
 import pytest
 from budlarem.normal_forms import forms_of
 from support import ListMachines
 from support.machines import LETTERS, Change, machine, random_change, seldom_halting
-from support.program import as_lines, run_command
+from support.program import as_lines, run_package
 
 # One machine of two states and three symbols: the halting champion, and with 1 and 2 exchanged.
 SAME = ["1RB2LB1RZ_2LA2RB1LB", "2RB2RZ1LB_1LA2LB1RB"]
+# Normal forms of two symbols that aren't renamed, their machines and states.
+STAY = [("1RB1LB_1LA1RZ", "1RB1LB_1LA1RZ", "AB"), ("1RZ---", "1RZ---", "A"), ("------", "---1LA", "A")]
 STEPS = 500
 
 
@@ -48,18 +49,6 @@ def test_machines_in_other_names_have_one_form(rng: random.Random, count: int = 
     assert alike > count / 4
 
 
-def test_normal_forms_halt_as_their_machines(rng: random.Random) -> None:
-    """Within the steps of the run that names them."""
-    plan = budlarem.Plan(cyclers=False, translated=False, backward=False)
-    machines = [seldom_halting(rng, rng.randint(1, 4), rng.randint(2, 4)) for _ in range(2_000)]
-    forms = [budlarem.normal(one, steps=STEPS).normal for one in machines]
-    fates = [
-        [str(one).partition(" ")[2] for one in budlarem.decide(some, budlarem.Limits(STEPS), plan)]
-        for some in (machines, forms)
-    ]
-    assert fates[0] == fates[1] and any(fate.startswith("halt") for fate in fates[0])
-
-
 def change_to(form: budlarem.Normal) -> Change:
     """The change of a machine into its form."""
     names = ([old.index(new) for new in sorted(old)] for old in (form.states, form.symbols))
@@ -75,10 +64,11 @@ def met_by_run(text: str, cells: int) -> tuple[str, str]:
 
 
 def test_command_prints_the_first_of_each_form() -> None:
-    given = as_lines([*SAME, "1RA1RA", "2LB---------_------------"])
-    output = run_command([sys.executable, "-m", "budlarem", "normal", "--distinct"], given).output.decode()
+    given = as_lines([*SAME, "1RA1RA", "2LB---------_------------", "1RB1LB_1LA1RZ", "1RZ---", "---1LA"])
+    output = run_package("normal", "--distinct", given=given).output.decode()
     assert output.splitlines() == [
         "%s\t%s\tAB\tR\t012" % (SAME[0], SAME[0]),
         "1RA---\t1RA1RA\tA\tR\t01",
         "1RB---------_------------\t2LB---------_------------\tAB\tL\t0213",
+        *("%s\t%s\t%s\tR\t01" % row for row in STAY),
     ]

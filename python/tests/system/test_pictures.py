@@ -1,14 +1,11 @@
 """Pictures of runs, which are read back and held against what the runs do."""
 
 import io
-import re
 from typing import Any
 
 import budlarem
 import pytest
-from support import TOP
-from support.machines import CHAMPION, CHAMPION_OF_FOUR
-from support.program import run_command, kind_of, replies
+from support.machines import CHAMPION_OF_FOUR
 
 Image: Any = pytest.importorskip("PIL.Image", reason="Python has no PIL (Debian: python3-pil)")
 GOES_RIGHT = "1RA1RA"
@@ -87,15 +84,3 @@ def test_what_cannot_be_drawn(asked: Any, error: type[Exception], text: str) -> 
         budlarem.picture(GOES_RIGHT, 0 if "columns" in asked else 3, **asked)
     with pytest.raises(budlarem.MachineError):
         budlarem.picture("1RA", 3)
-
-
-def test_first_command_of_readme(bb: str) -> None:
-    """README's first command writes the lines below it, of which the champion's needs all its steps."""
-    text = (TOP / "README.md").read_text(encoding="utf-8")
-    block = re.search(r"    \$ \./bb (decide .*)\n((?:    .*\n)+)", text)
-    assert block is not None
-    words, shown = block[1].split(), [line.strip() for line in block[2].splitlines()]
-    assert run_command([bb, *words], cwd=str(TOP)).output.decode().splitlines() == shown
-    (verdict,) = [line for line in shown if line.startswith(CHAMPION)]
-    (line,) = replies([bb, "decide", "--steps", str(int(verdict.split()[2]) - 1)], [CHAMPION])
-    assert kind_of(line) == "undecided"

@@ -2,6 +2,7 @@
 
 from __future__ import annotations
 
+import functools
 import gzip
 import hashlib
 import json
@@ -16,18 +17,19 @@ import subprocess
 import sys
 import tarfile
 import time
-from typing import Any, Callable
+from typing import Any
 
 import pytest
 from support import restore_signals
 from support.machines import mixed_machines
 from support.program import as_lines, options, place_programs, run_command, write_script
-from support.runs import Case, Process, is_at_work, small_disk, wait_until
+from support.runs import Case, small_disk, wait_until
+from python.tests.runner import run_budlarem
+
+Done = subprocess.CompletedProcess[str]
 
 FIRST = (300, 64, 10, 100)
 PASS = "steps=300,cells=64,depth=10,nodes=100"
-# A claim that takes hours to be refused.
-ENDLESS = b"0RB1LD_0RC1RD_0RD---_1LA0RB halt 1000000000000 1\n"
 
 
 class Place:
@@ -42,17 +44,11 @@ class Place:
         self.list.write_bytes(as_lines(lines))
         self.verdicts.write_bytes(run_command([bb, "decide", *options(FIRST)], as_lines(lines)).output)
 
-    def words(self, *more: str, out: pathlib.Path | None = None) -> list[str]:
-        return [sys.executable, "-m", "budlarem", "publish", str(out or self.out), *more]
-
     def given(self) -> list[str]:
         return ["--verdicts", str(self.verdicts), "--list", str(self.list)]
 
-    def publish(
-        self, *more: str, out: pathlib.Path | None = None, **how: Any
-    ) -> subprocess.CompletedProcess[str]:
-        command = self.words(*(more or self.given()), out=out)
-        return subprocess.run(command, capture_output=True, text=True, **how)
+    def publish(self, *more: str, out: pathlib.Path | None = None, **how: Any) -> Done:
+        return run_budlarem("publish", out or self.out, *(more or self.given()), **how)
 
     def left(self) -> list[str]:
         return sorted(set(os.listdir(self.top)) - {"list.txt", "verdicts.txt"})
@@ -124,7 +120,6 @@ def archive_of(bb: str, top: pathlib.Path) -> tuple[Place, Ways]:
     """An archive that was made, and what stands in its unpacked folder."""
     place = Place(bb, top / "archive", 3_000, 1)
     done = place.publish(*place.given(), "--pass", PASS)
-    assert done.returncode == 0, done.stderr
     assert done.stdout == "%s  %s\n" % (hashlib.sha256(place.out.read_bytes()).hexdigest(), place.out)
     assert place.left() == ["out.tar"]
     (top / "unpacked").mkdir()
@@ -164,7 +159,7 @@ def test_a_library_that_is_not_proved_is_named(
     subprocess.run(["sh", "-ec", link % plain_library.with_suffix(".a")], cwd=folder, check=True)
     for library, name in ((plain_library, "plain"), (folder / "libbb.so", "proved one")):
         monkeypatch.setenv("BB_LIBRARY", str(library))
-        version = run(sys.executable, "-m", "budlarem", "--version").stdout
+        version = run_budlarem("--version").stdout
         assert version.endswith(" (plain)\n") == (name == "plain")
         place = Place(bb, tmp_path / name, 60, 7)
         place.publish()
@@ -191,10 +186,9 @@ def test_same(bb: str, tmp_path: pathlib.Path) -> None:
         (other / (path.name + ".gz")).write_bytes(gzip.compress(path.read_bytes()))
     time.sleep(1.1)
     named = ["--verdicts", str(other / "verdicts.txt.gz"), "--list", str(other / "list.txt.gz")]
-    done = place.publish(*named, "--threads=1", out=other / "again.tar")
-    assert done.returncode == 0
+    place.publish(*named, "--threads=1", out=other / "again.tar")
     assert (other / "again.tar").read_bytes() == first
-    done = place.publish("--verdicts", str(place.verdicts), out=other / "bare.tar")
+    place.publish("--verdicts", str(place.verdicts), out=other / "bare.tar")
     with tarfile.open(other / "bare.tar") as archive:
         names = [os.path.basename(name) for name in archive.getnames()]
         facts = {(one.mtime, one.uid, one.gid, one.uname, one.mode) for one in archive.getmembers()}
@@ -227,8 +221,7 @@ def test_refused(bb: str, tmp_path: pathlib.Path) -> None:
     for rows, given, status, sentence in cases:
         place.verdicts.write_bytes(b"\n".join(rows))
         place.list.write_bytes(b"\n".join(given))
-        done = place.publish()
-        assert done.returncode == status and sentence in done.stderr, done.stderr
+        place.publish(status=status, sentence=re.escape(sentence))
         assert not place.left(), (sentence, place.left())
     place.verdicts.write_bytes(verdicts)
     place.list.write_bytes(machines)
@@ -249,8 +242,7 @@ def require_names(place: Place) -> None:
         ([*place.given(), "--threads", "0"], place.top / "new.tar", 2, "threads"),
     ]
     for more, out, status, sentence in cases:
-        done = place.publish(*more, out=out)
-        assert done.returncode == status and sentence in done.stderr, done.stderr
+        done = place.publish(*more, out=out, status=status, sentence=sentence)
         assert done.stderr.count("\n") == 1
     assert place.out.read_bytes() == b"mine" and place.left() == ["out.tar"]
 
@@ -259,7 +251,7 @@ def test_run(bb: str, tmp_path: pathlib.Path) -> None:
     place = Place(bb, tmp_path / "of_run", 400, 5)
     case = Case(tmp_path / "run", place.list.read_bytes())
     case.run()
-    assert place.publish("--verdicts", str(case.out), "--list", str(case.list)).returncode == 0
+    place.publish("--verdicts", str(case.out), "--list", str(case.list))
     about = json.loads(read_archive(place.out)["about.json"])
     assert about["passes"] == case.words[1::2]
     assert about["decided_by"] == about["checked_by"]
@@ -269,57 +261,35 @@ def test_run(bb: str, tmp_path: pathlib.Path) -> None:
 def test_full_disk(bb: str, tmp_path: pathlib.Path) -> None:
     place = Place(bb, tmp_path / "full", 2_000, 6)
     for size in (1_000, place.list.stat().st_size + 5_000):
-        done = place.publish(preexec_fn=lambda: resource.setrlimit(resource.RLIMIT_FSIZE, (size, size)))
-        assert done.returncode == 3 and "File too large" in done.stderr, done.stderr
+        limit = functools.partial(resource.setrlimit, resource.RLIMIT_FSIZE, (size, size))
+        done = place.publish(status=3, sentence="File too large", preexec_fn=limit)
         assert str(place.out) in done.stderr and not place.left(), (size, place.left())
     disk = tmp_path / "disk"
     disk.mkdir()
     with small_disk(disk, 64):
-        done = place.publish(out=disk / "out.tar")
-        assert done.returncode == 3 and "No space left" in done.stderr, done.stderr
+        done = place.publish(out=disk / "out.tar", status=3, sentence="No space left")
         assert "out.tar" in done.stderr and not os.listdir(disk), os.listdir(disk)
 
 
-def interrupt_publish(place: Place, number: int, ready: Callable[[Process], object]) -> tuple[int, str]:
-    """The status and standard error of a process that is sent a signal once it is ready."""
-    how: dict[str, Any] = {"stdout": subprocess.DEVNULL, "stderr": subprocess.PIPE}
-    with subprocess.Popen(place.words(*place.given()), preexec_fn=restore_signals, **how) as process:
-        ready(process)
-        process.send_signal(number)
-        try:
-            _, error = process.communicate(timeout=60)
-        finally:
-            process.kill()
-    return process.returncode, error.decode()
-
-
-@pytest.mark.parametrize("tries", [3, pytest.param(12, marks=pytest.mark.slow)])
+@pytest.mark.parametrize("tries", [1, pytest.param(4, marks=pytest.mark.slow)])
 def test_signals(bb: str, tmp_path: pathlib.Path, rng: random.Random, tries: int) -> None:
-    """SIGINT, SIGTERM and SIGHUP leave nothing half, in the middle of a check and while it is written."""
+    """SIGINT, SIGTERM and SIGHUP leave nothing half while it is written."""
     place = Place(bb, tmp_path / "signals", 20_000, 7)
-    verdicts, machines = place.verdicts.read_bytes(), place.list.read_bytes()
-    place.verdicts.write_bytes(verdicts + ENDLESS)
-    place.list.write_bytes(machines + ENDLESS.split(b" ")[0] + b"\n")
-    for number, status in ((signal.SIGINT, 130), (signal.SIGTERM, 143), (signal.SIGHUP, 129)):
-        at_work = lambda process: wait_until(process, lambda: is_at_work(process.pid))  # noqa: E731
-        ended, error = interrupt_publish(place, number, at_work)
-        assert ended == status
-        assert not place.left(), (number.name, place.left())
-        assert "no archive is written" in error
-    place.verdicts.write_bytes(verdicts)
-    place.list.write_bytes(machines)
     part = place.top / "out.tar.part"
     half = 0
-    for k in range(tries):
-        delay = rng.random() * 0.02
-
-        def ready(process: Process) -> None:
+    how: dict[str, Any] = {"stdout": subprocess.DEVNULL, "stderr": subprocess.PIPE}
+    command = [sys.executable, "-m", "budlarem", "publish", str(place.out), *place.given()]
+    for number in [signal.SIGINT, signal.SIGTERM, signal.SIGHUP] * tries:
+        with subprocess.Popen(command, preexec_fn=restore_signals, **how) as process:
             wait_until(process, part.exists)
-            time.sleep(delay)
-
-        status, error = interrupt_publish(place, (signal.SIGINT, signal.SIGTERM, signal.SIGHUP)[k % 3], ready)
-        half += status != 0
-        assert place.left() in ([], ["out.tar"]), (status, place.left(), error)
+            time.sleep(rng.random() * 0.02)
+            process.send_signal(number)
+            try:
+                _, error = process.communicate(timeout=60)
+            finally:
+                process.kill()
+        half += process.returncode != 0
+        assert place.left() in ([], ["out.tar"]), (process.returncode, place.left(), error)
         if place.out.exists():
             assert len(read_archive(place.out)) == 6
             os.unlink(place.out)
@@ -328,19 +298,11 @@ def test_signals(bb: str, tmp_path: pathlib.Path, rng: random.Random, tries: int
 
 PASSES = [word for steps in (300, 400) for word in ("--pass", "steps=%d,cells=64,depth=10,nodes=100" % steps)]
 PLAN = ["--states", "3", "--entries", "2", "--list-steps", "50", "--steps", "50"]
-Done = subprocess.CompletedProcess[str]
 
 
 @pytest.fixture
 def work_in_folder(programs: object, tmp_path: pathlib.Path, monkeypatch: pytest.MonkeyPatch) -> None:
     monkeypatch.chdir(tmp_path)
-
-
-def run(*words: str, status: int = 0, sentence: str = "") -> Done:
-    """Runs a command, which ends with this status and a sentence on standard error."""
-    done = subprocess.run(words, capture_output=True, text=True)
-    assert done.returncode == status and sentence in done.stderr, done.stderr
-    return done
 
 
 def read_archive(path: str | os.PathLike[str]) -> dict[str, bytes]:
@@ -370,25 +332,30 @@ def run_script(commands: list[str], **names: str) -> Done:
     script = "\n".join(commands)
     for name, other in names.items():
         script = re.sub(r"\b%s\b" % name, other, script)
-    return run("sh", "-ec", script)
+    done = subprocess.run(["sh", "-ec", script], capture_output=True, text=True)
+    assert done.returncode == 0, done.stderr
+    return done
 
 
 @pytest.mark.usefixtures("work_in_folder")
 def test_run_that_kept_its_holdouts() -> None:
     lines = [*mixed_machines(1_000, 11), "1rB1LB"]
     pathlib.Path("list.txt").write_bytes(as_lines(lines))
-    words = ["budlarem", "run", "list.txt", "--out", "run", "--keep", "left,halts=20", *PASSES]
-    publish = ["budlarem", "publish", "out.tar", "--verdicts", "run"]
-    run(*words, status=1)
-    run(*publish, "--list", "list.txt", status=2, sentence="dropped verdicts that no checker confirmed")
+    words = ["run", "list.txt", "--out", "run", "--keep", "left,halts=20", *PASSES]
+    publish = ["publish", "out.tar", "--verdicts", "run"]
+    run_budlarem(*words, status=1)
+    run_budlarem(
+        *publish, "--list", "list.txt", status=2, sentence="dropped verdicts that no checker confirmed"
+    )
     shutil.rmtree("run")
-    run(*words, "--check", status=1)
-    run(*publish, status=2, sentence="give the list by --list")
+    run_budlarem(*words, "--check", status=1)
+    sentence = "only the verdicts that --keep left,halts=20 kept; give the list by --list"
+    run_budlarem(*publish, status=2, sentence=sentence)
     cases = [(lines[:-1], "has 1000 lines"), (lines[::-1], "doesn't have behind the machine")]
     for changed, sentence in cases:
         pathlib.Path("other.txt").write_bytes(as_lines(changed))
-        run(*publish, "--list", "other.txt", status=2, sentence=sentence)
-    run(*publish, "--list", "list.txt")
+        run_budlarem(*publish, "--list", "other.txt", status=2, sentence=sentence)
+    run_budlarem(*publish, "--list", "list.txt")
     files = unpack("out.tar")
     assert files["holdouts.txt"] == pathlib.Path("run/verdicts.txt").read_bytes()
     about = json.loads(files["about.json"])
@@ -405,15 +372,15 @@ def test_run_that_kept_its_holdouts() -> None:
 def test_an_edited_summary_is_not_believed() -> None:
     """Limits, counts and what was checked come from sealed files."""
     pathlib.Path("list.txt").write_bytes(as_lines([*mixed_machines(300, 12)]))
-    words = ["budlarem", "run", "list.txt", "--out", "run", "--keep", "left", *PASSES]
-    publish = ["budlarem", "publish", "out.tar", "--verdicts", "run", "--list", "list.txt"]
+    words = ["run", "list.txt", "--out", "run", "--keep", "left", *PASSES]
+    publish = ["publish", "out.tar", "--verdicts", "run", "--list", "list.txt"]
     summary, sealed = pathlib.Path("run/summary.json"), "summary.json: it was changed: its seal doesn't fit"
-    run(*words)
-    run(*publish, status=2, sentence="dropped verdicts that no checker confirmed")
+    run_budlarem(*words)
+    run_budlarem(*publish, status=2, sentence="dropped verdicts that no checker confirmed")
     summary.write_text(summary.read_text().replace('"checked": false', '"checked": true'))
-    run(*publish, status=2, sentence=sealed)
+    run_budlarem(*publish, status=2, sentence=sealed)
     shutil.rmtree("run")
-    run(*words, "--check")
+    run_budlarem(*words, "--check")
     text = summary.read_text()
     changes = [
         ('"steps": 300', '"steps": 9300'),
@@ -425,24 +392,26 @@ def test_an_edited_summary_is_not_believed() -> None:
     assert text not in edited
     for change in (*edited, "[" * 100_000, "null", text + "\n"):
         summary.write_text(change)
-        done = run(*publish, status=2, sentence=sealed)
+        done = run_budlarem(*publish, status=2, sentence=sealed)
         assert done.stderr.count("\n") == 1, done.stderr
     summary.write_text(text[: len(text) // 2])
-    run(*publish, status=2, sentence="summary.json doesn't match run.json")
+    run_budlarem(*publish, status=2, sentence="summary.json doesn't match run.json")
     summary.write_text(text)
-    run(*publish)
+    run_budlarem(*publish)
     about = json.loads(unpack("out.tar")["about.json"])
     assert about["passes"] == PASSES[1::2] and about["counts"]["halt"] == json.loads(text)["counts"]["halt"]
+    pathlib.Path("run/verdicts.txt").unlink()
+    run_budlarem("publish", "new.tar", *publish[2:], status=2, sentence="has no verdicts.txt: that run isn't")
 
 
 @pytest.mark.usefixtures("work_in_folder")
 def test_shards() -> None:
-    publish = ["budlarem", "publish", "out.tar", "--verdicts", "walk"]
-    run("budlarem", "shards", "walk", *PLAN, "--plan")
-    run(*publish, status=2, sentence="isn't finished; `budlarem shards walk` resumes")
-    covered = run("budlarem", "shards", "walk").stdout
-    run(*publish, "--list", "walk/machines.txt", status=2, sentence="leave --list out")
-    run(*publish)
+    publish = ["publish", "out.tar", "--verdicts", "walk"]
+    run_budlarem("shards", "walk", *PLAN, "--plan")
+    run_budlarem(*publish, status=2, sentence="isn't finished; `budlarem shards walk` resumes")
+    covered = run_budlarem("shards", "walk").stdout
+    run_budlarem(*publish, "--list", "walk/machines.txt", status=2, sentence="leave --list out")
+    run_budlarem(*publish)
     files = unpack("out.tar")
     for name in ("skeleton.txt", "holdouts.txt"):
         assert files[name] == pathlib.Path("walk", name).read_bytes()
@@ -458,21 +427,21 @@ def test_shards() -> None:
 @pytest.mark.usefixtures("work_in_folder")
 def test_changed_shards(programs: pathlib.Path) -> None:
     """Files that don't match the summary are refused, and what `cover` refuses."""
-    publish = ["budlarem", "publish", "out.tar", "--verdicts", "walk"]
-    run("budlarem", "shards", "walk", *PLAN)
+    publish = ["publish", "out.tar", "--verdicts", "walk"]
+    run_budlarem("shards", "walk", *PLAN)
     path, summary = pathlib.Path("walk/holdouts.txt"), pathlib.Path("walk/summary.json")
     holdouts, fields = path.read_bytes(), summary.read_text()
     path.write_bytes(holdouts + holdouts)
-    run(*publish, status=2, sentence="isn't that of the summary")
+    run_budlarem(*publish, status=2, sentence="isn't that of the summary")
     path.write_bytes(holdouts)
     for change in (fields.replace("covers 3", "covers 4"), fields.replace('"halt": ', '"halt": 9'), "{}"):
         summary.write_text(change)
-        run(*publish, status=2, sentence="summary.json: it was changed: its seal doesn't fit")
+        run_budlarem(*publish, status=2, sentence="summary.json: it was changed: its seal doesn't fit")
     summary.write_text(fields[:100])
-    run(*publish, status=2, sentence="isn't finished")
+    run_budlarem(*publish, status=2, sentence="isn't finished")
     summary.write_text(fields)
     write_script(programs / "cover", "cat > /dev/null; echo covers all")
-    run(*publish, status=2, sentence="and cover prints")
+    run_budlarem(*publish, status=2, sentence="and cover prints")
     write_script(programs / "cover", "cat > /dev/null; echo line 1: no; exit 1")
-    run(*publish, status=1, sentence="cover refuses walk/skeleton.txt: line 1: no")
+    run_budlarem(*publish, status=1, sentence="cover refuses walk/skeleton.txt: line 1: no")
     assert not pathlib.Path("out.tar").exists()

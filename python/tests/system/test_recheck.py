@@ -3,7 +3,6 @@
 import ast
 import collections
 import itertools
-import os
 import pathlib
 import random
 import re
@@ -14,7 +13,8 @@ import pytest
 from support import TOP, ListMachines
 from support.claims import forge
 from support.machines import mixed_machines, seldom_halting
-from support.program import as_lines, run_command, options
+from support.program import as_lines, options, peak_memory, replies, run_command
+from support.runs import expected_verdicts
 
 RECHECK = str(TOP / "python" / "src" / "budlarem" / "recheck.py")
 # What it may have of lines.
@@ -62,34 +62,24 @@ def test_words() -> None:
         assert status == 2 and b"--steps N" in error, (more, status, error)
     status, _, error = run_recheck(str(TOP / "no such file"))
     assert status == 3 and b"no such file" in error, (status, error)
-    with open("/dev/full", "wb") as full:
-        command = [sys.executable, RECHECK]
-        done = subprocess.run(command, input=halt, stdout=full, stderr=subprocess.PIPE)
-    assert done.returncode == 3 and b"No space left" in done.stderr, done.stderr
-
-
-def memory_for(steps: int, path: pathlib.Path) -> int:
-    """The most memory that a run of so many steps in two cells takes, in KiB."""
-    path.write_text("0RB---_0LA--- cycler 0 %d\n" % steps)
-    with subprocess.Popen([sys.executable, RECHECK, "--steps", str(steps), str(path)]) as process:
-        _, status, used = os.wait4(process.pid, 0)
-        process.returncode = os.waitstatus_to_exitcode(status)
-    assert process.returncode == 0
-    return int(used.ru_maxrss)
+    done = run_command(["sh", "-c", 'exec "$0" "$1" >/dev/full', sys.executable, RECHECK], halt)
+    assert done.status == 3 and b"No space left" in done.error, done.error
 
 
 def test_memory(tmp_path: pathlib.Path) -> None:
-    few, many = (memory_for(steps, tmp_path / "claim.txt") for steps in (2, 2_000_000))
+    path, most = tmp_path / "claim.txt", []
+    for steps in (2, 2_000_000):
+        path.write_text("0RB---_0LA--- cycler 0 %d\n" % steps)
+        words = [sys.executable, RECHECK, "--steps", str(steps), str(path)]
+        most.append(peak_memory(subprocess.Popen(words)))
+    few, many = most
     assert 0 < few and 0 < many < few + 1_024, (few, many)
 
 
 @pytest.mark.parametrize("every", ["10", pytest.param("1", marks=pytest.mark.slow)])
 def test_verdicts_on_four_states(bb: str, list_machines: ListMachines, every: str) -> None:
     machines = as_lines(list_machines(4, "--every", every))
-    first = run_command([bb, "decide", *options(FIRST)], machines).output.splitlines(keepends=True)
-    left = b"".join(line.split(b" ")[0] + b"\n" for line in first if b" undecided " in line)
-    later = run_command([bb, "decide", *options(LATER)], left).output.splitlines(keepends=True)
-    lines = b"".join([line for line in first if b" undecided " not in line] + later)
+    lines = expected_verdicts(bb, machines, (FIRST, LATER))
     status, answers, error = run_recheck("--steps", str(LATER[0]), "--nodes", str(LATER[3]), given=lines)
     assert status == 0
     expected = [b"no claim" if b" undecided " in line else b"true" for line in lines.split(b"\n")[:-1]]
@@ -112,8 +102,7 @@ def test_forged_lines(bb: str, count: int, rng: random.Random) -> None:
     machines = list(mixed_machines(count // 2, rng.randrange(1 << 30)))
     while len(machines) < count:
         machines.append(seldom_halting(rng, rng.randint(1, 4), rng.randint(2, 4)))
-    decided = run_command([bb, "decide", *options(LIMITS)], as_lines(machines))
-    verdicts = decided.output.decode().splitlines()
+    verdicts = replies([bb, "decide", *options(LIMITS)], machines)
     texts = [*verdicts, *forge(rng, verdicts, count), "refused 775", "refused 776", ""]
     texts += (re.sub(r" \d+", lambda found: rng.choice([found[0], *FAR]), line) for line in verdicts)
     for line, word in itertools.product(verdicts[::20], ("steps", "cells", "nodes")):

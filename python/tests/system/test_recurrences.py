@@ -5,7 +5,6 @@ from __future__ import annotations
 import gzip
 import pathlib
 import random
-import sys
 from typing import Sequence
 
 import budlarem
@@ -13,26 +12,20 @@ import pytest
 from budlarem import Cycler, Exactness, Judged, Judgement, Limits, Translated
 from support import ListMachines
 from support.claims import forge
-from support.program import CommandResult, as_lines, replies, run_command
+from support.program import as_lines, replies, run_package
 from support.recurrences import repeats, reply_to_pair
 from support.simulation import compare_lines, simulate
 
 # Under the first limits most machines have a pair, under the others none.
 SMALL, LEAST = Limits(300, 128, 0, 0), Limits(1, 128, 0, 0)
 HEADER = "machine,start,period"
-JUDGE = [sys.executable, *"-m budlarem judge - --machine 1 --start 2 --period 3".split()]
-RIGHT = {
-    Exactness.EXACT: Judgement.CONFIRMED,
-    Exactness.TRUE: Judgement.CONFIRMED,
-    Exactness.FALSE: Judgement.CONTRADICTED,
-}
+JUDGE = "judge - --machine 1 --start 2 --period 3".split()
+RIGHT = {**dict.fromkeys(Exactness, Judgement.CONFIRMED), Exactness.FALSE: Judgement.CONTRADICTED}
 
 
-def judged(
-    rows: Sequence[str], limits: Limits = SMALL, header: str = HEADER, offset: int | None = None
-) -> list[Judged]:
+def judged(rows: Sequence[str], limits: Limits = SMALL) -> list[Judged]:
     checker = Limits(100_000, 1_000, 30, 1_000)
-    return list(budlarem.judge([header, *rows], limits=limits, checker=checker, start_offset=offset))
+    return list(budlarem.judge([HEADER, *rows], limits=limits, checker=checker, start_offset=0))
 
 
 def pairs_of(machines: Sequence[str]) -> dict[str, tuple[int, int, int]]:
@@ -70,7 +63,7 @@ def test_each_start_and_period(
     rows = ["%s,%d,%d" % claim for claim in claims]
     expected = [truth(*claim, exact[claim[0]]) for claim in claims]
     for limits in (SMALL, LEAST):
-        found = judged(rows, limits, offset=0)
+        found = judged(rows, limits)
         assert [one.exactness for one in found] == expected
         assert [one.judgement for one in found] == [RIGHT[kind] for kind in expected]
         for one in found if limits is SMALL else ():
@@ -79,23 +72,8 @@ def test_each_start_and_period(
 
 
 LEFT, CYCLE = "1RB---_1LB0RB", "0RB---_0LA---"
-# Rows, the judgement of each, and words of its reason.
+# Rows under limits that decide nothing, the judgement of each, and words of its reason.
 ROWS = {
-    LEFT + ",4,1": ("confirmed", "start 4, period 1: exact"),
-    LEFT + ",7,2": ("confirmed", "start 7, period 2: true; the exact ones are start 4, period 1, shift -1"),
-    LEFT
-    + ",3,1": ("contradicted", "start 3, period 1: false; the exact ones are start 4, period 1, shift -1"),
-    LEFT + ",4,": ("confirmed", "start 4: exact"),
-    LEFT + ",,3": ("confirmed", "period 3: true; the exact"),
-    LEFT + ",3,": ("contradicted", "start 3: false; the exact"),
-    LEFT + ",4,0": ("contradicted", "start 4, period 0: false; the exact"),
-    LEFT + ",x,1": ("not-judged", "x is no number"),
-    LEFT + ",,": ("not-judged", "no word says whether it halts"),
-    "1RB1LB_1LA1RZ,4,1": ("contradicted", "never halts; ours is halt 6 4"),
-    "x,4,1": ("unreadable", "no machine in this line"),
-}
-# The same under limits that decide nothing.
-OTHERS = {
     "1RB1LB_1LA1RZ,3,4": ("contradicted", "start 3, period 4: false; it halts before step 7"),
     LEFT + ",4,0": ("contradicted", "start 4, period 0: false; no run repeats so"),
     LEFT + ",4,": ("not-judged", "start 4: no pair of steps, and ours has none"),
@@ -108,30 +86,8 @@ OTHERS = {
 
 
 def test_reasons() -> None:
-    for rows, limits in ((ROWS, SMALL), (OTHERS, LEAST)):
-        found = judged(list(rows), limits, offset=0)
-        for one, (row, (judgement, reason)) in zip(found, rows.items()):
-            assert str(one.judgement) == judgement and one.reason.startswith(reason), (row, one.reason)
-
-
-def test_words_and_verdicts_beside_numbers() -> None:
-    rows = {
-        LEFT + ",linrecurrence,4,1": "confirmed",
-        LEFT + ",halt,4,1": "not-judged",
-        LEFT + ",unknown,4,1": "not-judged",
-        LEFT + ",decided,4,1": "confirmed",
-        LEFT + ",no such word,4,1": "not-judged",
-        LEFT + ",translated L 7 8,4,1": "confirmed",
-        LEFT + ",translated L 5 8,3,1": "contradicted",
-        LEFT + ",translated R 7 8,4,1": "contradicted",
-        LEFT + ",backward 1 1,4,1": "confirmed",
-        LEFT + ",halt 6 4,4,1": "not-judged",
-        LEFT + ",loop,,": "confirmed",
-    }
-    found = judged(list(rows), header="machine,verdict,start,period")
-    assert dict(zip(rows, (str(one.judgement) for one in found))) == rows
-    assert "two things: halt, and start 4 period 1" in found[1].reason
-    assert found[5].reason.endswith("; start 4, period 1: exact")
+    for one, (row, (judgement, reason)) in zip(judged(list(ROWS), LEAST), ROWS.items()):
+        assert str(one.judgement) == judgement and one.reason.startswith(reason), (row, one.reason)
 
 
 def test_offset_of_a_complete_list() -> None:
@@ -142,7 +98,7 @@ def test_offset_of_a_complete_list() -> None:
         assert judging.start_offset == offset
         found = [str(one.exactness) for one in judging]
         assert found == (kinds or ["exact", "exact", "true"])
-        exactness = [str(one.exactness) for one in judged(given, offset=0)]
+        exactness = [str(one.exactness) for one in judged(given)]
         assert exactness == [kind if offset == 0 else "true" for kind in found]
     for starts in ((5, 0, 5), (5, 1, 4), (3, 1, 5)):
         mixed = budlarem.judge([HEADER, *(row % start for row, start in zip(rows, starts))], limits=SMALL)
@@ -160,7 +116,7 @@ def test_machines_that_are_alike_make_no_offset(machines: list[str]) -> None:
         judging = budlarem.judge([HEADER, *("%s,%d,1" % (one, start) for one in machines)], limits=SMALL)
         assert judging.start_offset == 0
         assert [one.judgement for one in judging] == [judgement] * 2
-    found = run_command(JUDGE, as_lines(["%s;2;1" % one for one in machines]))
+    found = run_package(*JUDGE, given=as_lines(["%s;2;1" % one for one in machines]))
     assert found.status == 1 and b"offset" not in found.error + found.output
 
 
@@ -180,7 +136,7 @@ def test_the_command() -> None:
         (["--start-offset=2"], 1, ["an offset of 2 in each start", "starts and periods: false 3"]),
     ]
     for more, status, printed in cases:
-        found = run_command([*JUDGE, *more], given)
+        found = run_package(*JUDGE, *more, given=given)
         assert found.status == status
         lines = found.error.decode().splitlines()
         assert [line.partition(": ")[2] for line in lines[1:-1]] == printed, lines
@@ -189,36 +145,19 @@ def test_the_command() -> None:
 LIMITS = ["--steps", "3000", "--cells", "512"]
 
 
-def command(*words: str, given: bytes = b"") -> CommandResult:
-    return run_command([sys.executable, "-m", "budlarem", "recurrence", *words], given)
-
-
 def is_pair(line: str) -> bool:
     return line.split(" ")[1:2] in (["cycler"], ["translated"])
 
 
-def expected_replies(bb: str, lines: list[str], entries: bool = False) -> list[str]:
-    """The answers of the program, with recurrences in place of confirmed pairs."""
+def expected_replies(bb: str, lines: list[str]) -> list[str]:
+    """The answers of the program, with recurrences and entries in place of confirmed pairs."""
     answers = replies([bb, "check", *LIMITS, "--depth", "30"], lines)
     for place, line in enumerate(lines):
         if answers[place] == "ok" and is_pair(line):
-            answers[place] = reply_to_pair(line, entries)
+            answers[place] = reply_to_pair(line, True)
         elif answers[place] != "unread" and not is_pair(line):
             answers[place] = "open"
     return answers
-
-
-@pytest.mark.parametrize("size", ["2x2", "3x2", "2x3", pytest.param("4x2", marks=pytest.mark.slow)])
-def test_pairs_of_whole_sizes(bb: str, list_machines: ListMachines, size: str) -> None:
-    states, symbols = size.split("x")
-    machines = list_machines(int(states), "--symbols", symbols, "--steps", "1000")
-    lines = replies([bb, "decide", *LIMITS, "--depth", "30"], machines)
-    found = command(*LIMITS, "--threads", "2", given=as_lines(lines))
-    expected = expected_replies(bb, lines)
-    compare_lines("recurrences of %s" % size, found.output.decode().splitlines(), expected, lines)
-    counts = [sum(word in line.split(" ") for line in expected) for word in ("recurs", "open", "quasihalts")]
-    sentence = "standard input: recurs %d, bad 0, over 0, open %d, unread 0, quasihalts %d\n" % tuple(counts)
-    assert (found.status, found.error.decode()) == (0, sentence)
 
 
 def test_claims_of_any_origin(
@@ -230,13 +169,16 @@ def test_claims_of_any_origin(
     lines = [line for line in lines if "\n" not in line]
     path = tmp_path / "claims.txt.gz"
     path.write_bytes(gzip.compress(as_lines(lines)))
-    found = command(*LIMITS, "--entries", str(path))
-    expected = expected_replies(bb, lines, True)
+    found = run_package("recurrence", *LIMITS, "--entries", "--threads", "2", str(path))
+    expected = expected_replies(bb, lines)
     compare_lines("forged claims", found.output.decode("latin-1").splitlines(), expected, lines)
+    assert [str(budlarem.parse_recurrence(reply)) for reply in expected] == expected
     first = next(place for place, reply in enumerate(expected) if reply in ("bad", "over", "unread"))
     error = found.error.decode()
     assert found.status == 1 and "%s:%d: %s: " % (path, first + 1, expected[first]) in error
-    assert {"bad", "over", "open", "unread"} < set(expected)
+    kinds = ("recurs", "bad", "over", "open", "unread", "quasihalts")
+    counts = ["%s %d" % (kind, sum(kind in reply.split(" ") for reply in expected)) for kind in kinds]
+    assert ": %s\n" % ", ".join(counts) in error and not [count for count in counts if count.endswith(" 0")]
 
 
 def test_errors(tmp_path: pathlib.Path) -> None:
@@ -247,5 +189,5 @@ def test_errors(tmp_path: pathlib.Path) -> None:
         ([str(tmp_path / "none.txt")], 3, "none.txt"),
         (["--depth", "3"], 2, "unrecognized arguments"),
     ):
-        found = command(*words)
+        found = run_package("recurrence", *words)
         assert (found.status, found.output) == (status, b"") and sentence in found.error.decode(), words

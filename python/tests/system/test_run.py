@@ -7,20 +7,16 @@ import os
 import pathlib
 import random
 import resource
-import signal
 import subprocess
 import time
 from typing import Callable
 
 import pytest
 from support.program import MAX_CELLS, MAX_STEPS
-from support.runs import LONG_MACHINE, PASSES, Case, expected_verdicts, is_at_work, kill_often, most_memory
-from support.runs import random_list, require_interrupted, small_disk, stop, wait_until
+from support.runs import LONG_MACHINE, PASSES, QUICK_PASS, SLOWLY, Case, expected_verdicts, is_at_work
+from support.runs import kill_often, most_memory, random_list, require_interrupted, small_disk, stop
+from support.runs import wait_until
 
-# Limits at which a line costs nothing to speak of.
-QUICK_PASS = (50, 64, 3, 10)
-# Words by which a list takes a second or more.
-SLOWLY = ["--threads", "1", "--chunk", "20"]
 # A process whose wall's clock is an hour earlier each time that it is asked.
 SET_BACK = """import time
 hours = iter(range(2_000_000_000, 0, -3_600))
@@ -100,9 +96,8 @@ def test_list_that_changes(bb: str, tmp_path: pathlib.Path, grows: bool) -> None
         with stop(case, process, 1), open(case.list, "r+b") as file:
             file.seek(0 if grows else half, os.SEEK_END if grows else os.SEEK_SET)
             file.write(b"1RZ---\n" if grows else (b"1RZ---\n" * len(given))[: len(given) - half - 1] + b"\n")
-        status = process.wait()
     case.list.write_bytes(given)
-    require_after_fault(case, status, "changed while it was read", right)
+    require_after_fault(case, process.returncode, "changed while it was read", right)
     case.list.write_bytes(given + b"1RZ---\n")
     case.require_error(2, "bytes")
 
@@ -134,20 +129,6 @@ def test_folder_that_is_a_file(tmp_path: pathlib.Path) -> None:
     case.require_error(2, "is a file; give a folder")
 
 
-@pytest.mark.parametrize("number", [signal.SIGTERM, signal.SIGHUP])
-def test_signals(tmp_path: pathlib.Path, number: signal.Signals) -> None:
-    case = endless_case(tmp_path / "case")
-    with case.start() as process:
-        wait_until(process, lambda: case.chunks() > 0 and is_at_work(process.pid))
-        process.send_signal(number)
-        try:
-            status = process.wait(60)
-        finally:
-            process.kill()
-    what = "ended by %s; the same command resumes the run in %s\n" % (number.name, case.out)
-    assert status == 128 + number and what in case.output()
-
-
 @pytest.mark.slow
 def test_slow_input(bb: str, tmp_path: pathlib.Path) -> None:
     """Standard input that is empty for a while, also non-blocking, and a compressed one byte by byte."""
@@ -168,8 +149,7 @@ def test_slow_input(bb: str, tmp_path: pathlib.Path) -> None:
                 time.sleep(0.5)
                 os.write(writing, part)
             os.close(writing)
-            status = process.wait()
-        assert status == 1 and case.verdicts() == right, case.output()
+        assert process.returncode == 1 and case.verdicts() == right, case.output()
 
 
 @pytest.mark.slow
@@ -197,8 +177,7 @@ def test_order(bb: str, tmp_path: pathlib.Path) -> None:
     case = Case(tmp_path / "order", given, passes)
     with case.start(str(case.list), "--threads", "2", "--chunk", "100") as process:
         stood = wait_until(process, lambda: case.chunks() > 100)
-        status = process.wait()
-    assert stood and status == 0, case.output()
+    assert stood and process.returncode == 0, case.output()
     assert case.verdicts() == expected_verdicts(bb, given, passes)
 
 

@@ -3,20 +3,18 @@
 from __future__ import annotations
 
 import contextlib
+import itertools
 import os
 import pathlib
 import shutil
-import subprocess
-import sys
-from typing import Iterator
+from typing import Callable, Iterator
 
 import pytest
-from support.runs import PASSES, Case, Process, expected_verdicts, random_list, stop, wait_until, words_of
+from support.runs import PASSES, QUICK_PASS, SLOWLY, Case, Process, expected_verdicts, random_list, stop
+from support.runs import wait_until, words_of
+from python.tests.runner import run_budlarem
 
-# Limits at which a line costs nothing to speak of, and words by which a list takes a second or more.
-QUICK_PASS = (50, 64, 3, 10)
 TWO_PASSES = [QUICK_PASS, (60, 64, 3, 10)]
-SLOWLY = ["--threads", "1", "--chunk", "20"]
 LINES = 60_000
 MACHINE = b"1RB1LB_1LA1RZ\n"
 
@@ -212,14 +210,6 @@ def test_begun(bb: str, tmp_path: pathlib.Path) -> None:
     require_unchanged(case, case.out)
 
 
-def command(*more: str, given: pathlib.Path | None = None) -> tuple[int, str]:
-    """The status of a command of the package, whose standard input is a file, and what it says."""
-    with open(given or os.devnull, "rb") as file:
-        words, errors = [sys.executable, "-m", "budlarem", *more], subprocess.STDOUT
-        done = subprocess.run(words, stdin=file, stdout=subprocess.PIPE, stderr=errors)
-    return done.returncode, done.stdout.decode("utf-8", "replace")
-
-
 @pytest.mark.parametrize("passes", [1, pytest.param(2, marks=pytest.mark.slow)])
 def test_mixed(tmp_path: pathlib.Path, passes: int) -> None:
     """A summary or verdicts of another run over as many machines of each kind are refused; chunks aren't read."""
@@ -236,63 +226,58 @@ def test_mixed(tmp_path: pathlib.Path, passes: int) -> None:
         shutil.copytree(first, mixed)
         shutil.copyfile(second / name, mixed / name)
         archive = tmp_path / ("mixed-%d-%s.tar" % (passes, name))
-        status, said = command("publish", str(archive), "--verdicts", str(mixed))
-        assert status == 2 and "doesn't match" in said and not archive.exists(), said
+        run_budlarem("publish", archive, "--verdicts", mixed, status=2, sentence="doesn't match")
+        assert not archive.exists()
     archives = [tmp_path / ("whole-%d-%d.tar" % (passes, number)) for number in range(3)]
-    words = ["--verdicts", str(first), "--list", str(cases[0].list)]
-    assert command("publish", str(archives[0]), *words)[0] == 0
+    words = ["--verdicts", first, "--list", cases[0].list]
+    run_budlarem("publish", archives[0], *words)
     shutil.rmtree(first / "pass-1")
     shutil.copytree(second / "pass-1", first / "pass-1")
-    assert command("publish", str(archives[1]), *words)[0] == 0
+    run_budlarem("publish", archives[1], *words)
     for number in range(1, passes + 1):
         shutil.rmtree(first / ("pass-%d" % number))
-    assert command("publish", str(archives[2]), *words)[0] == 0
+    run_budlarem("publish", archives[2], *words)
     assert len({archive.read_bytes() for archive in archives}) == 1
 
 
-def test_archive(tmp_path: pathlib.Path) -> None:
-    """The archive is written beside a link and a file that have the names of its parts."""
-    place = tmp_path / "archive"
+@pytest.mark.parametrize(
+    "name, begin",
+    [
+        ("o.tar", lambda data: data[257:262] == b"ustar"),
+        pytest.param(
+            "p.html", lambda data: b"<html" in data, marks=pytest.mark.needs(modules=("matplotlib",))
+        ),
+    ],
+)
+def test_output(tmp_path: pathlib.Path, name: str, begin: Callable[[bytes], bool]) -> None:
+    """An archive or a report is written beside a link and a file that have the names of its parts; over no link."""
+    place, archive = tmp_path / "place", name == "o.tar"
     place.mkdir()
-    (place / "verdicts.txt").write_bytes(MACHINE[:-1] + b" halt 6 4\n")
-    (place / "precious").write_text("mine")
-    (place / "o.tar.part").symlink_to(place / "precious")
-    (place / "o.tar.2.part").write_text("mine, too")
+    verdicts, precious, out = place / "verdicts.txt", place / "precious", place / name
+    verdicts.write_bytes(MACHINE[:-1] + b" halt 6 4\n")
+    precious.write_text("mine")
+    (place / (name + ".part")).symlink_to(precious)
+    (place / (name + ".2.part")).write_text("mine, too")
+    words = ["publish", out, "--verdicts", verdicts] if archive else ["report", verdicts, "--out", out]
     before = snapshot(place)
-    status, said = command("publish", str(place / "o.tar"), "--verdicts", str(place / "verdicts.txt"))
+    run_budlarem(*words)
     after = snapshot(place)
-    made = after.pop("o.tar", b"")
-    assert status == 0 and made[257:262] == b"ustar", said
-    assert after == before
-    (place / "new.tar").symlink_to(place / "nowhere")
-    status, said = command("publish", str(place / "new.tar"), "--verdicts", str(place / "verdicts.txt"))
-    assert status == 2 and "exists already" in said and not (place / "nowhere").exists(), said
+    assert begin(after.pop(name, b"")) and after == before
+    for leads_to in (precious, place / "nowhere"):
+        out.unlink()
+        out.symlink_to(leads_to)
+        status, sentence = (2, "exists already") if archive else (3, "it is a link")
+        run_budlarem(*words, status=status, sentence=sentence)
+        assert snapshot(place) == {**before, name: b"link to " + os.fsencode(leads_to)}
 
 
 @pytest.mark.needs(modules=("matplotlib",))
-def test_report(tmp_path: pathlib.Path) -> None:
-    """A report is written beside files that have the names of its parts, and never over its own list."""
-    place = tmp_path / "report"
-    place.mkdir()
-    listed, page = place / "list.txt", place / "p.html"
+def test_report_over_its_list(tmp_path: pathlib.Path) -> None:
+    listed, same = tmp_path / "list.txt", tmp_path / "same.txt"
     listed.write_bytes(MACHINE[:-1] + b" halt 6 4\n")
-    (place / "precious").write_text("mine")
-    (place / "p.html.part").write_text("mine")
-    (place / "p.html.2.part").symlink_to(place / "precious")
-    before = snapshot(place)
-    status, said = command("report", str(listed), "--out", str(page))
-    after = snapshot(place)
-    made = after.pop("p.html", b"")
-    assert status == 0 and b"<html" in made, said
-    assert after == before
-    os.link(listed, place / "same.txt")
-    for out in (listed, place / "same.txt"):
-        for named in ((str(listed),), ()):
-            status, said = command("report", *named, "--out", str(out), given=listed)
-            assert status == 2 and "is the list itself" in said, said
-            assert listed.read_bytes() == before["list.txt"]
-    page.unlink()
-    page.symlink_to(place / "precious")
-    status, said = command("report", str(listed), "--out", str(page))
-    assert status == 3 and "it is a link" in said and page.is_symlink(), said
-    assert (place / "precious").read_text() == "mine"
+    os.link(listed, same)
+    before = listed.read_bytes()
+    for out, named in itertools.product((listed, same), ((listed,), ())):
+        with open(listed, "rb") as file:
+            run_budlarem("report", *named, "--out", out, stdin=file, status=2, sentence="is the list itself")
+        assert listed.read_bytes() == before

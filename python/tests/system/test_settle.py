@@ -10,50 +10,40 @@ import budlarem
 import pytest
 from support import ListMachines
 from support.machines import machine
-from support.program import as_lines, replies, run_command
+from support.program import as_lines, replies, run_package
 
 LIMITS = budlarem.Limits(200, 256, 20, 1_000)
 WORDS = ["--steps", "200", "--cells", "256", "--depth", "20", "--nodes", "1000"]
-COMMAND = ["/usr/bin/python3", "-m", "budlarem", "settle", *WORDS]
+COMMAND = ["settle", *WORDS, "--list"]
 
 
-@pytest.fixture
-def listed(tmp_path: pathlib.Path, bb: str, list_machines: ListMachines) -> pathlib.Path:
-    """The complete list of two states and two symbols."""
-    return write_list(tmp_path, bb, list_machines, 2, 2)
-
-
-def write_list(
-    folder: pathlib.Path, bb: str, list_machines: ListMachines, states: int, symbols: int
-) -> pathlib.Path:
-    machines = list_machines(states, "--symbols", str(symbols), "--steps", "200")
-    path = folder / ("%d by %d" % (states, symbols))
+def write_list(folder: pathlib.Path, bb: str, list_machines: ListMachines, size: str) -> pathlib.Path:
+    """The complete list of a size, as `2x2` for two states and two symbols."""
+    states, symbols = size.split("x")
+    machines = list_machines(int(states), "--symbols", symbols, "--steps", "200")
+    path = folder / size
     path.write_bytes(as_lines(replies([bb, "decide", *WORDS], machines)))
     return path
 
 
-@pytest.mark.parametrize("states, symbols, count", [(2, 2, 4_000), (3, 2, 4_000), (2, 3, 4_000)])
+@pytest.fixture
+def listed(tmp_path: pathlib.Path, bb: str, list_machines: ListMachines) -> pathlib.Path:
+    return write_list(tmp_path, bb, list_machines, "2x2")
+
+
+@pytest.mark.parametrize("size", ["2x2", "3x2", "2x3"])
 def test_machines_have_the_verdict_of_their_line(
-    rng: random.Random,
-    bb: str,
-    list_machines: ListMachines,
-    tmp_path: pathlib.Path,
-    states: int,
-    symbols: int,
-    count: int,
+    rng: random.Random, bb: str, list_machines: ListMachines, tmp_path: pathlib.Path, size: str
 ) -> None:
     """Each finds its line; a verdict is the one of its own decision."""
-    path = write_list(tmp_path, bb, list_machines, states, symbols)
-    machines = [machine(rng, states, symbols) for _ in range(count)]
+    path = write_list(tmp_path, bb, list_machines, size)
+    machines = [machine(rng, *map(int, size.split("x"))) for _ in range(4_000)]
     found = [*budlarem.settle(machines, path, LIMITS)]
     kinds: collections.Counter[str] = collections.Counter()
     for one, own in zip(found, budlarem.decide(machines, LIMITS)):
         kinds[one.listed.kind] += 1
         assert one.verdict in (own, None), one
-        if own.kind == "undecided":
-            assert one.never is not False
-        else:
-            assert one.never is (own.kind != "halt")
+        assert one.never in {"undecided": (None, True), "halt": (False,)}.get(own.kind, (True,)), one
     assert [one.line.machine for one in found] == machines
     assert {"halt", "cycler", "translated"} <= kinds.keys()
 
@@ -72,13 +62,13 @@ def test_mirrored_machines_change_sides(listed: pathlib.Path) -> None:
 
 
 def test_command(listed: pathlib.Path, programs: pathlib.Path) -> None:
-    ended = run_command([*COMMAND, "--list", str(listed), "1RB1LB_1LA1RZ"], b"")
+    ended = run_package(*COMMAND, str(listed), "1RB1LB_1LA1RZ")
     line = "1RB1LB_1LA1RZ\t1RB1LB_1LA1RZ halt 6 4\t1RB1LB_1LA--- halt 5 4\tsame AB 01"
     assert (ended.status, ended.output) == (0, as_lines([line]))
     assert b"covers 2 states 2 symbols: " in ended.error
     digest = hashlib.sha256(listed.read_bytes()).hexdigest()
     given = b"# one\n1RB1LB_1LA1RZ\nno machine\n"
-    again = run_command([*COMMAND, "--list", str(listed), "--digest", digest], given)
+    again = run_package(*COMMAND, str(listed), "--digest", digest, given=given)
     assert (again.status, again.output) == (1, as_lines([line]))
 
 
@@ -96,7 +86,7 @@ def test_other_lists_are_refused(
     """One without its last lines, one of another digest, one of another size."""
     if more is not None:
         listed.write_bytes(b"".join(listed.read_bytes().splitlines(True)[:19]))
-    ended = run_command([*COMMAND, "--list", str(listed), *words, "1RB1RZ_1LB0RC_1LC1LA"], b"")
+    ended = run_package(*COMMAND, str(listed), *words, "1RB1RZ_1LB0RC_1LC1LA")
     assert ended.status == 2 and ended.output == b"" and error.encode() in ended.error
 
 
@@ -115,7 +105,7 @@ def test_a_sharded_list_does_its_shards_again(
     """By the limits of its plan; a shard that comes out otherwise is refused."""
     folder = tmp_path / "shards"
     words = ["--states", "3", "--entries", "2", "--list-steps", "200", *WORDS]
-    done = run_command(["/usr/bin/python3", "-m", "budlarem", "shards", str(folder), *words])
+    done = run_package("shards", str(folder), *words)
     assert done.status == 0, done.error
     machines = [machine(rng, 3, 2) for _ in range(1_000)]
     reports: list[str] = []

@@ -17,7 +17,6 @@ import time
 from typing import Callable, Iterator
 
 import pytest
-from budlarem.runner.backends import PoolBackend
 from budlarem.runner.errors import RunError
 from budlarem.runner.progress import Progress
 from budlarem.shards import ShardFolder
@@ -25,7 +24,7 @@ from support import ListMachines, require, restore_signals
 from support.clusters import cluster
 from support.program import as_lines, replies, run_command, write_script
 from support.recurrences import reply_to_pair
-from python.tests.runner import Answering, reseal
+from python.tests.runner import Answering, PoolBackend, reseal, run_budlarem
 from support.shards import counts_in
 
 Whole = Callable[[int], str]
@@ -50,10 +49,8 @@ def whole(bb: str, cover: str, list_machines: ListMachines) -> Whole:
 
 
 def run(*words: object, status: int = 0, sentence: str = "") -> str:
-    """What a command of `budlarem` prints: nothing where it fails, with this status and a text of this form."""
-    command = [sys.executable, "-m", "budlarem", *map(str, words)]
-    done = subprocess.run(command, capture_output=True, text=True)
-    assert done.returncode == status and re.search(sentence, done.stderr), done.stderr
+    """What a command prints: nothing where it fails, and nothing on standard error unless it has this sentence."""
+    done = run_budlarem(*words, status=status, sentence=sentence)
     assert not (done.stdout if status else done.stderr if not sentence else "")
     return done.stdout
 
@@ -313,27 +310,18 @@ def test_verified_shards(bb: str, programs: pathlib.Path, out: pathlib.Path) -> 
 def test_a_wrong_result_is_found_by_doing_it_again(out: pathlib.Path) -> None:
     """Its seal fits: only doing the shard again finds that other lines were decided."""
     run("shards", out, *PLAN, "--list-steps", "50", "--steps", "50")
-    script = FORGE % {"out": str(out)}
-    done = subprocess.run([sys.executable, "-c", script], capture_output=True, text=True)
-    assert done.returncode == 0, done.stderr
+    with contextlib.closing(ShardFolder(str(out), print)) as folder:
+        machine = folder.shards()[3]
+        result = folder.store.read(machine)
+        assert result is not None
+        fields = {**result.fields, "line": result.fields["line"][:-65] + "0" * 64 + "\n"}
+        del fields["content"]
+        folder.store.write(machine, fields, result.content, replaces=True)
     run("shards", out)
-    sentence = "%s: done again, the shard has other line; remove it, and resume" % done.stdout.strip()
+    sentence = "%s: done again, the shard has other line; remove it, and resume" % machine
     run("shards", out, "--verify", status=1, sentence=sentence)
-    (out / "shards" / done.stdout.strip()).unlink()
+    (out / "shards" / machine).unlink()
     run("shards", out, "--verify", sentence="13 of 13 shards were done again: the same")
-
-
-# What seals a shard whose digest is of other lines.
-FORGE = """
-from budlarem.shards import ShardFolder
-folder = ShardFolder(%(out)r, print)
-machine = folder.shards()[3]
-result = folder.store.read(machine)
-result.fields["line"] = result.fields["line"][:-65] + "0" * 64 + chr(10)
-fields = {name: value for name, value in result.fields.items() if name != "content"}
-folder.store.write(machine, fields, result.content, True)
-print(machine)
-"""
 
 
 def test_interruption(out: pathlib.Path) -> None:
@@ -400,13 +388,13 @@ def test_another_plan_is_refused(out: pathlib.Path) -> None:
 @pytest.mark.parametrize(
     "words, error",
     [
-        ("--states 3 --entries 7", "--entries is 7, but must be 1 to 6"),
+        ("--states 3 --entries 7", "--entries is 7, but may be 1 to 6"),
         ("--states 3 --threads 0", "--threads is 0, but must be 1 or more"),
         ("--states 3 --cells 0", "cells is 0, but may be 1 to 67,108,864"),
-        ("--states 26", "--states is 26, but must be 1 to 25"),
-        ("--states 0", "--states is 0, but must be 1 to 25"),
-        ("--states 3 --symbols 11", "--symbols is 11, but must be 2 to 10"),
-        ("--states 3 --list-steps 1e8", "--list-steps is 100000000, but must be 0 to 10,000,000"),
+        ("--states 26", "--states is 26, but may be 1 to 25"),
+        ("--states 0", "--states is 0, but may be 1 to 25"),
+        ("--states 3 --symbols 11", "--symbols is 11, but may be 2 to 10"),
+        ("--states 3 --list-steps 1e8", "--list-steps is 100,?000,?000, but may be 0 to 10,000,000"),
         *(
             (words, words.split()[0] + " goes with --states, which makes a plan")
             for words in ("--entries 2", "--list-steps 2", "--steps 1000", "--plan")

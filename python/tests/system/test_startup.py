@@ -16,6 +16,7 @@ import pytest
 from support import restore_signals
 from support.program import MAX_CELLS, MAX_STEPS
 from support.runs import LONG_MACHINE
+from python.tests.runner import run_budlarem
 
 LONG_PASS = "steps=%d,cells=%d" % (MAX_STEPS, MAX_CELLS)
 ENDLESS_PAIR = b"1RA1RA cycler 1 %d\n" % MAX_STEPS
@@ -91,6 +92,9 @@ def test_signals(tmp_path: pathlib.Path, name: str, number: signal.Signals, step
         more = commands(tmp_path)[name]
         status, said = result_after_signal(more, number, imports, seconds, tmp_path / "log")
         assert status == _STATUSES[number] and re.fullmatch(_SENTENCES[name], said), (imports, seconds, said)
+        assert not [*tmp_path.glob("out.tar*")]
+    if name == "run":
+        assert said.endswith(" in %s\n" % (tmp_path / "out"))
 
 
 # Interrupts the process as it imports the module AT.
@@ -120,12 +124,6 @@ def test_an_early_interruption_prints_no_traceback(tmp_path: pathlib.Path, modul
     assert done.stderr == b"" or not is_imported, done.stderr
 
 
-def result_of(more: list[str], library: pathlib.Path | None = None) -> tuple[int, bytes]:
-    variables = dict(os.environ) if library is None else {**os.environ, "BB_LIBRARY": str(library)}
-    how = subprocess.run([sys.executable, "-m", "budlarem", *more], env=variables, capture_output=True)
-    return how.returncode, how.stdout + how.stderr
-
-
 @pytest.mark.parametrize("step", [1, pytest.param(4, marks=pytest.mark.slow)])
 def test_cut_library(library: pathlib.Path, tmp_path: pathlib.Path, step: int) -> None:
     """A library that was cut short is refused by each command, and never called."""
@@ -140,37 +138,34 @@ def test_cut_library(library: pathlib.Path, tmp_path: pathlib.Path, step: int) -
         ["trace", "1RB1LB_1LA1RZ", "--upto", "6"],
     )
     lengths = [7, 20, *range(64, len(whole), len(whole) // (4 * step)), len(whole) - 1]
+    variables = {**os.environ, "BB_LIBRARY": str(cut)}
     for length, more in itertools.product(lengths, commands):
         cut.write_bytes(whole[:length])
-        status, said = result_of(more, cut)
-        assert status == 3 and b"was cut short" in said and said.count(b"\n") == 1, (more, length)
+        done = run_budlarem(*more, status=3, sentence="was cut short", env=variables)
+        assert done.stderr.count("\n") == 1 and not done.stdout, (more, length)
     cut.write_bytes(whole)
-    status, said = result_of(decide, cut)
-    assert status == 0 and b"1RB1LB_1LA1RZ halt 6 4" in said.splitlines()
+    assert "1RB1LB_1LA1RZ halt 6 4" in run_budlarem(*decide, env=variables).stdout.splitlines()
 
 
-def test_controls(tmp_path: pathlib.Path) -> None:
-    """Lines with control characters, in lists and in the names of files."""
+def test_lines_with_control_characters_are_escaped(tmp_path: pathlib.Path) -> None:
     odd = b"\x1b[31mred\x07\x9b1m\xc2\x9b2m\x7f\x00\r"
-    files = {
-        "list.txt": LONG_MACHINE,
-        "odd.txt": (odd + b"\n") * 3,
-        "odd-verdicts.txt": b"1RB1LB_1LA1RZ halt 6 4 " + odd + b"\n",
-        "na\x1b[31mme.txt": b"1RB1LB_1LA1RZ halt 6 4\n1RB1LB_1LA1RZ halt 7 4\n",
-    }
-    for name, data in files.items():
-        (tmp_path / name).write_bytes(data)
-    machines, listed, verdicts, named = (str(tmp_path / name) for name in files)
-    out, archive = str(tmp_path / "odd"), str(tmp_path / "odd.tar")
-    runs = [["run", listed, "--out", out], ["run", named, "--out", out], ["run", machines, "--out", named]]
-    others = [["publish", archive, "--verdicts", name] for name in (verdicts, named)]
-    others += [["publish", named, "--verdicts", verdicts], ["trace", "1RB1LB\x1b[31m", "--upto", "3"]]
-    others += [["report", verdicts, "--out", str(tmp_path / "no" / "na\x1b[31mme.html")]]
-    for more in (*runs, ["check", verdicts], ["check", named], *others):
-        status, said = result_of(more)
-        raw = [byte for byte in said if byte < 32 and byte != 10 or byte == 127]
-        raw += [ord(sign) for sign in said.decode("utf-8", "replace") if "\x80" <= sign <= "\x9f"]
-        assert status in (1, 2, 3) and not raw and (b"\\x1b" in said or more[0] == "trace"), said
+    listed, verdicts = tmp_path / "odd.txt", tmp_path / "odd-verdicts.txt"
+    listed.write_bytes((odd + b"\n") * 3)
+    verdicts.write_bytes(b"1RB1LB_1LA1RZ halt 6 4 " + odd + b"\n")
+    cases: list[tuple[int, str, list[object]]] = [
+        (2, "\\x1b", ["run", listed, "--out", tmp_path / "odd"]),
+        (1, "\\x1b", ["check", verdicts]),
+        (1, "\\x1b", ["publish", tmp_path / "o.tar", "--verdicts", verdicts]),
+        (1, "", ["trace", "1RB1LB\x1b[31m", "--upto", "3"]),
+    ]
+    for status, text, words in cases:
+        require_escaped(run_budlarem(*words, status=status), text)
+
+
+def require_escaped(done: "subprocess.CompletedProcess[str]", text: str) -> None:
+    said = done.stdout + done.stderr
+    hidden = [sign for sign in said if not sign.isprintable() and sign not in "\n\t"]
+    assert text in done.stderr and said and not hidden, said
 
 
 # A name that hides, reverses or breaks the text behind it: ESC, C1 as a sign and as a byte, U+202E, U+2028.
@@ -203,9 +198,6 @@ def test_names_of_files_are_escaped_as_lines_are(tmp_path: pathlib.Path, name: s
         "run": [[odd, "--out", none], [none, "--out", none], [odd, "--out", odd]],
     }
     for words in more.get(name, [[odd], [none], [odd, none]]):
-        done = subprocess.run([sys.executable, "-m", "budlarem", name, *words], capture_output=True)
-        error = done.stderr.decode()
-        hidden = [sign for sign in error.replace("\n", "") if not sign.isprintable()]
-        assert done.stderr and not hidden and b"\x9b" not in done.stderr, error
-        is_named = "\\x1b[31mb" in error and ("U+202Etxt" in error or "\\u202etxt" in error)
-        assert is_named, (words, error)
+        done = run_budlarem(name, *words, status=None)
+        require_escaped(done, "\\x1b[31mb")
+        assert "U+202Etxt" in done.stderr or "\\u202etxt" in done.stderr, (words, done.stderr)

@@ -7,13 +7,13 @@ import os
 import pathlib
 import shlex
 import unittest.mock
-from typing import Any, Iterator
+from typing import Any, Callable, Iterator
 
 import hypothesis
 import pytest
-from budlarem import PublishError, _files, publish
+from budlarem import _files
 from budlarem._text import LONGEST_GIVEN
-from budlarem.runner import chunks, errors, input, passes, store
+from budlarem.runner import chunks, errors, input, passes, replies, store
 from budlarem.runner.errors import ReplyError, RunError
 from hypothesis import strategies as st
 from python.tests.runner import KINDS, LIST, MIDDLE, PASSES, SMALL, RunCase, call_command, counts_of
@@ -112,18 +112,11 @@ def test_results_come_back(stored: StoreCase) -> None:
 def test_each_changed_byte_is_seen(stored: StoreCase) -> None:
     path = stored.path / "one"
     data = path.read_bytes()
-    for place, bit in itertools.product(range(len(data)), (0, 3, 7)):
-        changed = bytearray(data)
-        changed[place] ^= 1 << bit
-        path.write_bytes(changed)
-        with pytest.raises(store.SealError):
-            stored.store.read("one")
-    for size in range(len(data)):
-        path.write_bytes(data[:size])
-        with pytest.raises(store.SealError):
-            stored.store.read("one")
-    for other in (data + b"x", data + data, b"mine"):
-        path.write_bytes(other)
+    bits = itertools.product(range(len(data)), (0, 3, 7))
+    changed = [data[:place] + bytes([data[place] ^ 1 << bit]) + data[place + 1 :] for place, bit in bits]
+    changed += [data[:size] for size in range(len(data))] + [data + b"x", data + data, b"mine"]
+    for one in changed:
+        path.write_bytes(one)
         with pytest.raises(store.SealError):
             stored.store.read("one")
 
@@ -207,23 +200,24 @@ def test_answers() -> None:
 
 
 def test_replies() -> None:
-    ours = chunks.identity()
-    reply = chunks.decide_chunk(KINDS, SMALL.numbers())
-    asked = chunks.describe_task(chunks.DECIDE, SMALL.numbers())
-    assert chunks.open_reply(reply, ours, asked, KINDS)[0] == expected_verdicts(KINDS, [SMALL])
+    ours, numbers = replies.identity(), SMALL.numbers()
+    request, reply = replies.Request(chunks.decide, KINDS, numbers), replies.reply_to(
+        chunks.decide, KINDS, numbers
+    )
+    assert replies.open_reply(reply, request, ours).written == expected_verdicts(KINDS, [SMALL])
     outputs, seconds = (reply[0][:-1] + b" ", reply[0].decode()), ("1", float("nan"))
     wrong: list[Any] = [
-        *(None, b"", [], reply[:4], reply[:5], (*reply[:7], chunks.digest_of(KINDS))),
+        *(None, b"", [], reply[:4], reply[:5], (*reply[:7], replies.digest_of(KINDS))),
         *((output, *reply[1:]) for output in outputs),
         *((reply[0], one, *reply[2:]) for one in seconds),
         *((*reply[:2], "0.0", *reply[3:]), (*reply[:4], "0" * 64, *reply[5:])),
-        chunks.decide_chunk(KINDS[:-1], SMALL.numbers()),
-        chunks.decide_chunk(KINDS, MIDDLE.numbers()),
-        chunks.check_chunk(KINDS, SMALL.numbers()),
+        replies.reply_to(chunks.decide, KINDS[:-1], numbers),
+        replies.reply_to(chunks.decide, KINDS, MIDDLE.numbers()),
+        replies.reply_to(chunks.check, KINDS, numbers),
     ]
     for changed in wrong:
         with pytest.raises(ReplyError):
-            chunks.open_reply(changed, ours, asked, KINDS)
+            replies.open_reply(changed, request, ours)
 
 
 def test_a_chunk_lasts_some_seconds() -> None:
@@ -241,7 +235,6 @@ def test_a_chunk_lasts_some_seconds() -> None:
 
 MACHINE_LINE = b"1RB1LB_1LA1RZ\n"
 SMALL_PASS = ["--pass", "steps=30,cells=16,depth=3,nodes=5"]
-UNFINISHED = "has no verdicts.txt: that run isn't finished"
 
 
 @contextlib.contextmanager
@@ -309,13 +302,6 @@ def test_more_than_half(case: RunCase) -> None:
             input.require_form(listed)
 
 
-def test_nothing_is_begun(case: RunCase) -> None:
-    case.list.write_bytes(b"1RB1LB_1LA1RZ halt 6 4\n")
-    status, said = case.call(*SMALL_PASS)
-    assert (status, case.out.exists()) == (2, False)
-    assert "budlarem read" in said
-
-
 def test_a_run_s_own_file_is_named_before_its_form(case: RunCase) -> None:
     case.list.write_bytes(MACHINE_LINE)
     assert case.call(*SMALL_PASS)[0] == 0
@@ -325,13 +311,16 @@ def test_a_run_s_own_file_is_named_before_its_form(case: RunCase) -> None:
 
 
 def test_what_is_no_list(case: RunCase) -> None:
-    case.list.unlink()
-    status, said = case.call(*SMALL_PASS)
-    assert status == 3 and "the list %s can't be read: No such file" % case.list in said
-    case.list.mkdir()
-    status, said = case.call(*SMALL_PASS)
-    assert (status, case.out.exists()) == (3, False)
-    assert "can't be read: it is a folder" in said
+    """Nothing is begun."""
+    ways: list[tuple[Callable[[], object], int, str]] = [
+        (lambda: case.list.write_bytes(b"1RB1LB_1LA1RZ halt 6 4\n"), 2, "budlarem read"),
+        (case.list.unlink, 3, "the list %s can't be read: No such file" % case.list),
+        (case.list.mkdir, 3, "can't be read: it is a folder"),
+    ]
+    for change, wanted, text in ways:
+        change()
+        status, said = case.call(*SMALL_PASS)
+        assert (status, case.out.exists()) == (wanted, False) and text in said
 
 
 def commands_of_page(case: RunCase) -> list[list[str]]:
@@ -377,15 +366,3 @@ def test_names_that_begin_as_options_do(case: RunCase, monkeypatch: pytest.Monke
     for words in commands_of_page(case):
         assert call_command(*words)[0] == 0, words
     assert (case.top / "--out.tar").exists()
-
-
-def test_folders_that_are_not_published(case: RunCase) -> None:
-    case.list.write_bytes(MACHINE_LINE + b"0RB1LD_0RC1RD_0RD---_1LA0RB\n")
-    for keep, sentence in (("left", "only the verdicts that --keep left kept"), ("all", UNFINISHED)):
-        case.out = case.top / keep
-        case.call(*SMALL_PASS, "--keep", keep)
-        if sentence == UNFINISHED:
-            (case.out / "verdicts.txt").unlink()
-        with pytest.raises(PublishError, match=sentence):
-            publish(case.top / "new.tar", case.out)
-        assert not (case.top / "new.tar").exists()

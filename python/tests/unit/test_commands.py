@@ -2,31 +2,27 @@
 
 import collections
 import html
-import importlib.util
-import itertools
 import os
 import pathlib
 import re
-import subprocess
 import sys
 import time
 from unittest import mock
 
 import budlarem
 import pytest
-from budlarem import Agreement, comparison, pictures, reports
+from budlarem import pictures, reports
 from budlarem.reports import Growth, measure_growth
 from support.program import run_command
 
 CHAMPION = "1RB1LB_1LA1RZ"
 FOUR_STATES = "1RB1LB_1LA0LC_1RZ1LD_1RD0RA"
 UNDECIDED = "0RB1LD_0RC1RD_0RD---_1LA0RB"
-HAS_PLOTS = importlib.util.find_spec("matplotlib") is not None
 
 
-def agreement(first: str, second: str, undefined_steps: bool = False) -> Agreement:
-    pair = budlarem.parse(first), budlarem.parse(second)
-    return comparison.agreement(*pair, undefined_steps)
+def compare(first: list[str], second: list[str], undefined_steps: bool = False) -> list[str]:
+    found = budlarem.compare(first, second, undefined_steps=undefined_steps)
+    return [str(one.agreement) for one in found]
 
 
 # Two verdicts each, by their agreement.
@@ -44,19 +40,15 @@ def test_what_goes_together() -> None:
     for found, pairs in PAIRS.items():
         for pair in pairs.split("; "):
             first, second = ("%s %s" % (CHAMPION, words) for words in pair.split(", "))
-            assert str(agreement(first, second)) == found, pair
+            assert compare([first], [second]) == [found], pair
 
 
 def test_steps_counted_for_undefined_entries() -> None:
-    undefined = "1RB---_1LA1RZ"
-    for machine, other, asked, found in (
-        *((undefined, halt, True, "agree") for halt in ("halt 6 4", "halt 6 5")),
-        *((undefined, halt, True, "contradict") for halt in ("halt 6 3", "halt 7 4")),
-        *((undefined, "halt 6 4", False, "contradict"), (CHAMPION, "halt 6 4", True, "contradict")),
-    ):
-        pair = "%s halt 5 4" % machine, "%s %s" % (machine, other)
-        assert str(agreement(pair[0], pair[1], asked)) == found
-        assert str(agreement(pair[1], pair[0], asked)) == found
+    for numbers, found in (("6 4", "agree"), ("6 5", "agree"), ("6 3", "contradict"), ("7 4", "contradict")):
+        first, second = (["1RB---_1LA1RZ halt " + words] for words in ("5 4", numbers))
+        assert compare(first, second, True) == compare(second, first, True) == [found]
+        assert compare(first, second) == ["contradict"]
+    assert compare([CHAMPION + " halt 5 4"], [CHAMPION + " halt 6 4"], True) == ["contradict"]
 
 
 def test_any_order_and_what_one_lacks() -> None:
@@ -83,9 +75,9 @@ SEVERAL: list[tuple[list[str], list[str], list[str]]] = [
 
 def test_each_of_several_verdicts_on_a_machine_is_compared() -> None:
     for first, second, expected in SEVERAL:
-        assert [str(one.agreement) for one in budlarem.compare(first, second)] == expected
+        assert compare(first, second) == expected
         other = [word.replace("first", "SECOND").replace("second", "first").lower() for word in expected]
-        assert sorted(str(one.agreement) for one in budlarem.compare(second, first)) == sorted(other)
+        assert sorted(compare(second, first)) == sorted(other)
 
 
 def test_machines_that_are_the_same() -> None:
@@ -98,13 +90,6 @@ def test_machines_that_are_the_same() -> None:
         "only-first\t1RA1LA cycler 1 3 | -",
         "only-second\t- | 1RA---2RA cycler 1 2",
     ]
-
-
-def test_machines_that_stay() -> None:
-    for machine in (CHAMPION, "------", "1RZ---"):
-        form = budlarem.normal(machine)
-        assert (form.normal, form.mirrored) == (machine, False)
-    assert budlarem.normal("---1LA").normal == "------"
 
 
 def test_growths() -> None:
@@ -136,13 +121,10 @@ def test_a_halt_comes_with_its_steps_and_cells() -> None:
     assert measure_growth(FOUR_STATES, 106).growth is Growth.ROOT
 
 
-def test_rows_are_those_of_the_whole_trace() -> None:
+def test_sampled_rows_are_those_of_the_whole_trace() -> None:
     large = ["1LB2RA3LA4RB0LA_2LA---4RB1LA0RZ", "1LB5RA3LA4RB0LA1LB_2LA---4RB1LA0RZ5LA"]
     for machine in (CHAMPION, UNDECIDED, *large, "1RB---" + "_1LA0RB" * 24):
         rows = list(budlarem.trace(machine, 500))
-        lows = itertools.accumulate((now.position for now in rows if now.state != "Z"), min)
-        assert all(now.low == low for now, low in zip(rows, lows))
-        assert list(budlarem.trace(machine, 500, every=3)) == rows[::3]
         chosen, every = pictures.sample_rows(machine, 500, 65_536, 20)
         assert chosen == rows[::every] and len(chosen) <= 20 and (every == 1 or len(chosen) > 10)
 
@@ -173,9 +155,8 @@ def test_positions_far_beyond_the_visited_ones_take_no_time() -> None:
         made = budlarem.picture(FOUR_STATES, 107, left=left, right=right)
         wide = -(-(right - left + 1) // made.across)
         plain = (pictures.row_colours(row, left, left + wide * made.across - 1, False) for row in rows)
-        expected = pictures.png_of_colours(
-            wide, len(rows), (pictures.mean_colours(row, made.across) for row in plain)
-        )
+        means = (pictures.mean_colours(row, made.across) for row in plain)
+        expected = pictures.png_of_colours(wide, len(rows), means)
         assert made.across > 1 and made.png == expected, (left, right)
     began = time.process_time()
     made = budlarem.picture(FOUR_STATES, 107, left=-(10**9), right=10**9)
@@ -237,27 +218,10 @@ def run_with(*words: str, given: str = "") -> tuple[int, list[str], str]:
     return status, output.decode().splitlines(), error.decode()
 
 
-def test_a_refused_line_is_named_and_passed_over(tmp_path: pathlib.Path) -> None:
-    machines = [CHAMPION, "1RB1LC_1LA1RZ", "1RA1RA"]
-    claims = [CHAMPION + " halt 6 4", "1RA1RA halt 6", "1RA1RA translated R 1 2 1 1"]
-    path, page = tmp_path / "list.txt", str(tmp_path / "page.html")
-    counts = {"read": 2, "decide": 3, "normal": 2, "normal --distinct": 2, "compare %s" % path: 0}
-    if HAS_PLOTS:
-        counts["report --out " + page] = 0
-    for words, count in counts.items():
-        lines = machines if count else claims
-        path.write_text("\n".join(lines) + "\n", encoding="utf-8")
-        status, written, said = run_with(*words.split(" "), str(path))
-        assert (status, len(written)) == (1, count), words
-        assert "%s:2: refused: " % path in said, words
-
-
 def test_a_full_disk_is_named_with_what_was_written() -> None:
-    command = [sys.executable, "-m", "budlarem", "decide"]
-    with open("/dev/full", "wb") as full:
-        ended = subprocess.run(command, input=b"1RZ---\n", stdout=full, stderr=subprocess.PIPE)
-    assert ended.returncode == 3
-    assert re.search("(?m)^budlarem: standard output: .*No space left on device\n$", ended.stderr.decode())
+    ended = run_command(["sh", "-c", 'exec "$0" -m budlarem decide >/dev/full', sys.executable], b"1RZ---\n")
+    assert ended.status == 3
+    assert re.search("(?m)^budlarem: standard output: .*No space left on device\n$", ended.error.decode())
 
 
 def test_files_statuses_and_refused_words(tmp_path: pathlib.Path) -> None:

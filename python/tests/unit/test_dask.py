@@ -3,90 +3,74 @@
 from __future__ import annotations
 
 import io
-import types
 import unittest.mock
 from concurrent.futures import CancelledError, Future
-from typing import Any
+from typing import Any, Callable
 
 import pytest
 from budlarem.commands import build_parser, run as command
-from budlarem.runner import chunks, dask, progress
+from budlarem.runner import chunks, dask, progress, replies
 from budlarem.runner.errors import DeadWorkersError, RunError
-from python.tests.runner import call_command
+from python.tests.runner import SMALL, call_command
 
-LIMITS = (30, 16, 3, 5)
 LINES = b"1RZ---\n1RA1RA\n0RZ---\n1LA1LA\n1LZ---\n"
-
-
-def reply_to(lines: bytes, limits: chunks.Numbers) -> chunks.ChunkReply:
-    """A reply that tells which lines it belongs to."""
-    written, seconds = lines.upper(), float(lines.count(b"\n"))
-    digests = (chunks.digest_of(lines), "asked", chunks.digest_of(written))
-    return (written, seconds, "version", "commit", "library", *digests)
 
 
 class KilledWorker(Exception):
     """As dask's."""
 
 
+class DoubleFuture:
+    """dask's future, which a test ends."""
+
+    def __init__(self, work: tuple[Any, ...]) -> None:
+        self.work, self.status, self.found = work, "pending", None
+        self.callbacks: list[Callable[[DoubleFuture], None]] = []
+
+    def add_done_callback(self, function: Callable[[DoubleFuture], None]) -> None:
+        self.callbacks.append(function)
+
+    def end(self, status: str = "finished", found: Any = None) -> None:
+        """Ends it with a reply or an error, or with that of its work."""
+        function, *given = self.work
+        self.status, self.found = status, function(*given) if found is None else found
+        for callback in self.callbacks:
+            callback(self)
+
+    def exception(self, seconds: float) -> Any:
+        return self.found
+
+    def result(self, seconds: float) -> Any:
+        if isinstance(self.found, BaseException):
+            raise self.found
+        return self.found
+
+
 class DoubleClient:
-    """A client, and its executor, that does what a test says. `given` has the tasks that were handed over."""
+    """A client that does what a test says. `given` has the futures of what was handed over."""
 
     def __init__(self, *address: str, **how: Any) -> None:
         self.status, self.scheduler_comm, self.loop = "running", object(), object()
         self.how = how
         self.dashboard_link = "http://page"
         self.workers: dict[str, int] = {"one": 1}
-        # What it knows of each task: its `status`.
-        self.futures: dict[str, types.SimpleNamespace] = {}
-        self.given: list[Any] = []
-        self.fetched: dict[str, Any] = {}
-
-    def get_executor(self, pure: bool) -> DoubleClient:
-        assert not pure
-        return self
+        self.given: list[DoubleFuture] = []
 
     def nthreads(self, callback_timeout: float) -> dict[str, int]:
         return self.workers
 
-    def submit(self, task: Any, lines: bytes, limits: chunks.Numbers, key: str) -> Future[Any]:
+    def submit(self, *work: Any, key: str, pure: bool) -> DoubleFuture:
         if self.status == "closed":
             raise Exception("Tried sending message after closing")
-        future: Future[Any] = Future()
-        self.futures[key] = types.SimpleNamespace(status="pending")
-        given = {"task": task, "lines": lines, "limits": limits, "key": key, "future": future}
-        self.given.append(types.SimpleNamespace(**given))
-        return future
-
-    def answer(self, place: int = 0) -> None:
-        given = self.given.pop(place)
-        given.future.set_result(given.task(given.lines, given.limits))
-
-    def cancel(self) -> None:
-        """Ends all tasks as dask does when the scheduler goes away."""
-        for given in self.given:
-            given.future.cancel()
-            given.future.set_running_or_notify_cancel()
-        self.given = []
-
-
-class DoubleFuture:
-    """dask's future, whose reply a test lays down in the client."""
-
-    def __init__(self, key: str, client: DoubleClient) -> None:
-        self.key, self.client = key, client
-
-    def result(self, seconds: float) -> Any:
-        reply = self.client.fetched[self.key]
-        if isinstance(reply, BaseException):
-            raise reply
-        return reply
+        assert not pure
+        self.given.append(DoubleFuture(work))
+        return self.given[-1]
 
 
 class Dask:
     """The package `distributed`; `refuses` is what is raised where a client is made."""
 
-    KilledWorker, Future = KilledWorker, DoubleFuture
+    KilledWorker = KilledWorker
 
     def __init__(self) -> None:
         self.clients: list[DoubleClient] = []
@@ -113,23 +97,21 @@ class ClusterCase:
     def client(self) -> DoubleClient:
         return self.dask.clients[-1]
 
-    def submit(self, lines: bytes = LINES) -> Future[Any]:
-        return self.place.submit(reply_to, lines, LIMITS)
+    def submit(self) -> Future[Any]:
+        return self.place.submit(replies.Request(chunks.decide, LINES, SMALL.numbers()))
 
     def maintain(self) -> None:
         """A look at the scheduler that is due."""
         self.place._next = 0.0
         self.place.maintain()
 
-    def require_reply(self, future: Future[Any], lines: bytes = LINES) -> None:
-        assert future.result(0) == reply_to(lines, LIMITS)
-
     def answer_all(self, *futures: Future[Any]) -> None:
         """Ends all tasks well, and requires the replies of these futures."""
+        written, _, *rest = replies.reply_to(chunks.decide, LINES, SMALL.numbers())
         while self.client.given:
-            self.client.answer()
+            self.client.given.pop().end()
         for future in futures:
-            self.require_reply(future)
+            assert future.result(0)[0] == written and list(future.result(0)[2:]) == rest
 
 
 @pytest.fixture
@@ -145,22 +127,42 @@ def test_replies_and_errors_come_back(double: ClusterCase) -> None:
     assert double.sentences[1:] == ["dask's page is at http://page"]
     assert double.place._submitted == set()
     errors = (ModuleNotFoundError("No module named 'budlarem'"), KilledWorker("it was tried on 4 workers"))
-    for error, kind in zip(errors, (ModuleNotFoundError, DeadWorkersError)):
+    for error, kind in zip(
+        (*errors, OSError("no library")), (ModuleNotFoundError, DeadWorkersError, OSError)
+    ):
         future = double.submit()
-        double.client.given.pop().future.set_exception(error)
+        double.client.given.pop().end("error", error)
         assert isinstance(future.exception(0), kind)
     double.dask.refuses = OSError("nobody there")
     with pytest.raises(RunError, match="no scheduler answers at tcp://there:1: nobody there"):
         dask.DaskBackend("tcp://there:1", {}, double.sentences.append)
 
 
-def test_what_was_cancelled_is_handed_over_again(double: ClusterCase) -> None:
+@pytest.mark.parametrize(
+    "status, error",
+    [
+        ("cancelled", CancelledError()),
+        ("lost", TimeoutError()),
+        ("finished", OSError("the connection broke")),
+    ],
+)
+def test_lost_work_is_handed_over_again(double: ClusterCase, status: str, error: Exception) -> None:
+    """All futures are cancelled once the scheduler leaves; a reply may be forgotten, or out of reach."""
     futures = [double.submit(), double.submit()]
-    double.client.cancel()
+    while double.client.given:
+        double.client.given.pop().end(status, error)
     double.maintain()
     assert len(double.client.given) == 2
     assert not any(future.done() for future in futures)
     double.answer_all(*futures)
+
+
+def test_a_reply_that_cannot_be_read(double: ClusterCase) -> None:
+    unread, other = double.submit(), double.submit()
+    double.client.given.pop(0).end("finished", ImportError("no such class"))
+    with pytest.raises(ImportError, match="no such class"):
+        unread.result(0)
+    double.answer_all(other)
 
 
 def test_a_broken_connection(double: ClusterCase) -> None:
@@ -177,8 +179,11 @@ def test_a_broken_connection(double: ClusterCase) -> None:
     double.client.status, double.client.scheduler_comm = "running", object()
     double.maintain()
     assert len(double.client.given) == 2
-    before.future.set_result("of the connection before")
-    assert not future.done()
+    for status, found in (("finished", "of the connection before"), ("cancelled", CancelledError())):
+        before.end(status, found)
+        assert not future.done()
+    double.maintain()
+    assert len(double.client.given) == 2
     double.answer_all(future, waiting)
 
 
@@ -210,51 +215,6 @@ def test_workers_that_go_and_come(double: ClusterCase) -> None:
     double.maintain()
     assert "has 2 workers" in double.sentences[-1]
     assert (double.place.width(), double.place.status()) == (14, "2 workers")
-
-
-def test_a_reply_that_cannot_be_read(double: ClusterCase, monkeypatch: pytest.MonkeyPatch) -> None:
-    """dask's executor never ends such a future, nor those whose replies came with it."""
-    lost, innocent, busy = double.submit(), double.submit(), double.submit()
-    for given, reply in zip(double.client.given, (ImportError("no such class"), reply_to(LINES, LIMITS))):
-        double.client.futures[given.key].status = "finished"
-        double.client.fetched[given.key] = reply
-    double.maintain()
-    double.maintain()
-    assert not (lost.done() or innocent.done())
-    monkeypatch.setattr(dask, "_SILENT", -1.0)
-    double.maintain()
-    with pytest.raises(ImportError, match="no such class"):
-        lost.result(0)
-    double.require_reply(innocent)
-    assert not busy.done()
-
-
-def test_a_reply_that_dask_forgot(double: ClusterCase, monkeypatch: pytest.MonkeyPatch) -> None:
-    """It is decided again; dask's own future is held meanwhile, so that it seldom forgets one."""
-    future = double.submit()
-    before = double.client.given.pop()
-    (handed,) = double.place._submitted
-    assert handed.own.key == before.key
-    del double.client.futures[before.key]
-    double.maintain()
-    assert double.client.given == []
-    monkeypatch.setattr(dask, "_SILENT", -1.0)
-    double.maintain()
-    double.answer_all(future)
-
-
-def test_a_reply_that_comes_late(double: ClusterCase, monkeypatch: pytest.MonkeyPatch) -> None:
-    monkeypatch.setattr(dask, "_SILENT", -1.0)
-    future = double.submit()
-    key = double.client.given[0].key
-    double.client.futures[key].status = "finished"
-    for error in (TimeoutError(), OSError("the connection broke"), CancelledError()):
-        double.client.fetched[key] = error
-        for _ in range(2 if isinstance(error, CancelledError) else 4):
-            double.maintain()
-        assert not future.done()
-    double.client.answer(1)
-    double.require_reply(future)
 
 
 def place(*words: str) -> Any:

@@ -1,5 +1,6 @@
 """Deciding, checking and tracing through the library; and places by verdicts, beside plain runs."""
 
+import collections
 import io
 import itertools
 import os
@@ -14,7 +15,7 @@ from budlarem import Answer, Cycler, Extent, Limits, LimitsError, MachineError, 
 from budlarem import parse
 from budlarem._library import CLEAN, call_library
 from support.machines import LETTERS
-from support.program import as_lines, run_command
+from support.program import run_command
 from support.simulation import simulate
 
 CHAMPION = "1RB1LB_1LA1RZ"
@@ -23,21 +24,10 @@ LINES = [CHAMPION + " halt 6 4", "0RB---_0LA--- cycler 2 4", "1RA1RA translated 
 LINES += ["refused 2", "refused 1"]
 
 
-def decide_lines(machines: Any, *given: Any, **more: Any) -> list[str]:
-    return [str(verdict) for verdict in budlarem.decide(machines, *given, **more)]
-
-
 def test_lists_of_any_kind() -> None:
     for machines in (MACHINES, tuple(MACHINES), iter(MACHINES), dict.fromkeys(MACHINES)):
-        assert decide_lines(machines) == LINES
-    assert decide_lines([]) == []
-
-
-def test_limits_and_plans() -> None:
-    assert decide_lines(["1RA1RA"], Limits(steps=10), Plan(translated=False)) == ["1RA1RA backward 0 0"]
-    simulation = Plan(cyclers=False, translated=False, backward=False)
-    assert decide_lines(["1RA1RA"], Limits(steps=10), simulation) == ["1RA1RA undecided steps"]
-    assert decide_lines([CHAMPION], Limits(steps=5), simulation) == [CHAMPION + " undecided steps"]
+        assert list(map(str, budlarem.decide(machines))) == LINES
+    assert list(budlarem.decide([])) == []
 
 
 def test_endless_lists() -> None:
@@ -46,40 +36,32 @@ def test_endless_lists() -> None:
 
 
 def test_an_item_that_is_no_text() -> None:
-    for wrong, said in (
-        (b"1RA1RA", r"machines\[2\] is of type bytes, not str; decide_bytes"),
-        (None, r"machines\[2\] is of type NoneType"),
-        (7, r"machines\[2\] is of type int"),
-    ):
+    kinds = {b"1RA1RA": "bytes, not str; decide_bytes", None: "NoneType", 7: "int"}
+    for wrong, kind in kinds.items():
         found = budlarem.decide([CHAMPION, "1RA1RA", wrong])  # type: ignore[list-item]
         assert [str(next(found)), str(next(found))] == [LINES[0], LINES[2]]
-        with pytest.raises(TypeError, match=said):
+        with pytest.raises(TypeError, match=r"machines\[2\] is of type " + kind):
             next(found)
 
 
 def test_wrong_limits_and_threads_at_once() -> None:
-    wrong: Any = {"steps": 1}
-    with pytest.raises(TypeError, match="limits is of type dict"):
-        budlarem.decide([], wrong)
-    with pytest.raises(TypeError, match="plan is of type dict"):
-        budlarem.decide([], Limits(), wrong)
-    with pytest.raises(ValueError, match="threads is 0"):
-        budlarem.decide([], threads=0)
+    given: dict[str, Any] = {"limits is of type dict": {"limits": {}}, "plan is of type dict": {"plan": {}}}
+    given["threads is 0"] = {"threads": 0}
+    for text, wrong in given.items():
+        with pytest.raises((TypeError, ValueError), match=text):
+            budlarem.decide([], **wrong)
 
 
 def test_an_error_of_the_list_itself() -> None:
-    def broken_items() -> Iterator[str]:
-        yield CHAMPION
-        raise KeyError("gone")
-
-    found = budlarem.decide(broken_items())
+    rows = [{"machine": CHAMPION}, dict[str, str]()]
+    found = budlarem.decide(row["machine"] for row in rows)
     with pytest.raises(KeyError):
         list(found)
 
 
 def test_threads_end_with_the_list() -> None:
     before = threading.active_count()
-    decide_lines(MACHINES, threads=3)
+    list(budlarem.decide(MACHINES, threads=3))
     assert threading.active_count() == before
 
 
@@ -106,16 +88,6 @@ WRONG: dict[str, Any] = {
 }
 
 
-def test_blocks_of_any_kind() -> None:
-    given, expected = as_lines(MACHINES), as_lines(LINES)
-    cut = [given[k : k + 3] for k in range(0, len(given), 3)]
-    kinds: list[Any] = [given, bytearray(given), memoryview(given), io.BytesIO(given), cut, iter([given])]
-    for blocks in kinds:
-        assert b"".join(budlarem.decide_bytes(blocks)) == expected
-    assert b"".join(budlarem.check_bytes(expected)) == b"ok\nok\nok\nopen\nopen\n"
-    assert b"".join(budlarem.decide_bytes(b"")) == b""
-
-
 def test_lines_without_an_end() -> None:
     noise = (b"1RZ------" * 100_000 for _ in range(20))
     assert b"".join(budlarem.decide_bytes(noise)) == b"refused 31\n"
@@ -139,9 +111,10 @@ def test_lists_of_many_batches() -> None:
     assert expected.count(b"\n") == lines.count(b"\n")
     view = memoryview(lines)
     cut = [view[begin : begin + 99_991] for begin in range(0, len(lines), 99_991)]
-    for blocks in (lines, bytearray(lines), view, io.BytesIO(lines), cut):
-        found = b"".join(budlarem.decide_bytes(blocks, Limits(steps=0)))  # type: ignore[arg-type]
-        assert found == expected
+    kinds: list[Any] = [lines, bytearray(lines), view, io.BytesIO(lines), cut, iter([lines])]
+    for blocks in kinds:
+        assert b"".join(budlarem.decide_bytes(blocks, Limits(steps=0))) == expected
+    assert b"".join(budlarem.decide_bytes(b"")) == b""
 
 
 def test_whether_it_was_cut() -> None:
@@ -208,23 +181,16 @@ def small_machines() -> list[str]:
 
 
 def test_plain_runs() -> None:
-    kinds = set()
-    for verdict in budlarem.decide(small_machines(), Limits(steps=100, cells=64, depth=0, nodes=0)):
+    small = budlarem.decide(small_machines(), Limits(steps=100, cells=64, depth=0, nodes=0))
+    counts: collections.Counter[str] = collections.Counter()
+    for verdict in itertools.chain(small, budlarem.decide(FAR)):
         if isinstance(verdict, (budlarem.Halt, Cycler, Translated)):
-            kinds.add(verdict.kind)
-            run = list(plain(verdict.machine, 25))
+            counts[verdict.kind] += 1
+            last = 25 if isinstance(verdict, budlarem.Halt) else 6 * verdict.second
+            run = list(plain(verdict.machine, last))
             for step in {*range(0, len(run), 3), len(run) - 1}:
                 assert at(verdict, step) == Place(step, *run[step]), (str(verdict), step)
-    assert kinds == {"halt", "cycler", "translated"}
-
-
-def test_great_shifts() -> None:
-    for verdict in budlarem.decide(FAR):
-        assert isinstance(verdict, (Cycler, Translated))
-        period = verdict.second - verdict.first
-        run = list(plain(verdict.machine, verdict.first + 5 * period))
-        for step in (*range(0, len(run), 7), verdict.first, verdict.second, len(run) - 1):
-            assert at(verdict, step) == Place(step, *run[step])
+    assert len(counts) == 3, counts
 
 
 def test_without_an_extent() -> None:

@@ -15,7 +15,7 @@ from typing import Any, Callable, Iterator, Sequence
 import budlarem
 import pytest
 from budlarem import Limits, _api, _files, _library, publish
-from budlarem.runner import chunks, folder
+from budlarem.runner import folder, replies
 from budlarem.runner.errors import FolderError, MovedError, RunError
 from python.tests.runner import LIST, PASSES, SMALL, RunCase, act, expected_verdicts
 
@@ -24,95 +24,29 @@ def contents(top: pathlib.Path) -> dict[str, bytes]:
     return {str(path): path.read_bytes() for path in top.rglob("*") if path.is_file()}
 
 
-class DirectoryCase(contextlib.ExitStack):
-    def __init__(self, top: pathlib.Path) -> None:
-        super().__init__()
-        self.top, self.inside = top, top / "in"
-        self.inside.mkdir()
-        self.directory = _files.Directory.open(str(self.inside))
-        self.callback(self.directory.close)
-
-    def write(self, name: str, text: bytes) -> None:
-        fill = lambda number: _files.write_blocks(number, [text])  # noqa: E731
-        os.close(_files.write_atomically(self.directory, name, fill, self.directory.id_at(name)))
-
-
 @pytest.fixture
-def place(tmp_path: pathlib.Path) -> Iterator[DirectoryCase]:
-    with DirectoryCase(tmp_path) as made:
-        yield made
+def target(tmp_path: pathlib.Path) -> Iterator[_files.FileTarget]:
+    """A page in a folder that may be moved."""
+    (tmp_path / "in").mkdir()
+    with _files.open_target(str(tmp_path / "in" / "page")) as opened:
+        yield opened
 
 
-def test_files_stay_in_the_directory_that_was_opened(place: DirectoryCase) -> None:
-    os.rename(place.inside, place.top / "moved")
-    (place.inside).mkdir()
-    place.write("a", b"1")
-    assert contents(place.top) == {str(place.top / "moved" / "a"): b"1"}
-    with pytest.raises(MovedError):
-        place.directory.require_name()
-    shutil.rmtree(place.inside)
-    os.rename(place.top / "moved", place.inside)
-    place.directory.require_name()
-
-
-def test_links_and_pipes_are_no_files(place: DirectoryCase) -> None:
-    (place.top / "other").write_text("mine")
-    os.symlink(place.top / "other", place.inside / "link")
-    os.symlink(place.top, place.inside / "folder")
-    os.mkfifo(place.inside / "pipe")
-    for name, what in (("link", "a link"), ("pipe", "a pipe"), ("folder", "a link")):
-        for flags in (os.O_RDONLY, os.O_RDWR):
-            with pytest.raises(_files.KindError, match="it is %s, and a file" % what):
-                place.directory.open_file(name, flags)
-    with pytest.raises(_files.KindError, match="it is a link, and a folder"):
-        place.directory.subdirectory("folder")
-    assert (place.top / "other").read_text() == "mine"
-
-
-def test_a_file_of_another_is_not_replaced(place: DirectoryCase) -> None:
-    place.write("a", b"1")
-    target = place.enter_context(contextlib.closing(_files.FileTarget(place.directory, "a")))
-    (place.inside / "a").unlink()
-    (place.inside / "a").write_bytes(b"mine")
-    with pytest.raises(FileExistsError, match="^%s was made or replaced" % (place.inside / "a")):
-        target.write(lambda number: None)
-    assert contents(place.top) == {str(place.inside / "a"): b"mine"}
-
-
-def test_parts_of_others_stay(place: DirectoryCase) -> None:
-    for name in ("a.part", "a.2.part"):
-        (place.inside / name).write_bytes(b"mine")
-    place.write("a", b"1")
-    place.write("a", b"2")
-    assert sorted(contents(place.top).values()) == [b"2", b"mine", b"mine"]
-
-
-def test_where_there_are_no_links(place: DirectoryCase) -> None:
-    refused = unittest.mock.Mock(side_effect=OSError(errno.EPERM, "it can't"))
-    with unittest.mock.patch.object(os, "link", refused):
-        place.write("a", b"1")
-        assert list(contents(place.top).values()) == [b"1"]
-        place.directory.create_file("b.part")
-        with pytest.raises(FileExistsError):
-            place.directory.install("b.part", "a", None)
-
-
-def test_nothing_is_left_after_an_error(place: DirectoryCase) -> None:
-    def fail(number: int) -> None:
-        os.write(number, b"half")
+def test_nothing_is_left_after_an_error(target: _files.FileTarget, tmp_path: pathlib.Path) -> None:
+    def fail() -> Iterator[bytes]:
+        yield b"half"
         raise OSError(errno.ENOSPC, "No space left on device")
 
     with pytest.raises(OSError) as raised:
-        _files.write_atomically(place.directory, "a", fail, None)
-    assert (raised.value.filename, contents(place.top)) == (str(place.inside / "a"), {})
+        target.write(fail())
+    assert (raised.value.filename, contents(tmp_path)) == (str(tmp_path / "in" / "page"), {})
 
 
-def test_a_target_whose_folder_is_moved(place: DirectoryCase) -> None:
-    target = place.enter_context(_files.open_target(str(place.inside / "page")))
-    os.rename(place.inside, place.top / "moved")
+def test_a_target_whose_folder_is_moved(target: _files.FileTarget, tmp_path: pathlib.Path) -> None:
+    os.rename(tmp_path / "in", tmp_path / "moved")
     with pytest.raises(OSError, match="moved, removed or replaced"):
-        target.write(lambda number: _files.write_blocks(number, [b"page"]))
-    assert contents(place.top) == {}
+        target.write([b"page"])
+    assert contents(tmp_path) == {}
 
 
 def test_parts_make_the_whole() -> None:
@@ -127,6 +61,8 @@ def test_parts_make_the_whole() -> None:
 
 def test_a_file_where_folders_have_no_locks(case: RunCase) -> None:
     lock = fcntl.flock
+    with contextlib.closing(folder.Folder(str(case.out))):
+        assert list(case.out.iterdir()) == [], "the folder itself is locked"
 
     def refuse(number: int, what: int) -> None:
         if os.path.isdir("/proc/self/fd/%d" % number):
@@ -134,12 +70,10 @@ def test_a_file_where_folders_have_no_locks(case: RunCase) -> None:
         lock(number, what)
 
     with unittest.mock.patch.object(fcntl, "flock", refuse):
-        case.run_over()
-        assert case.verdicts() == expected_verdicts(LIST)
+        case.require_verdicts()
         first = folder.Folder(str(case.out))
         case.callback(first.close)
-        with pytest.raises(FolderError, match="another run works in"):
-            case.run_over()
+        case.require_error(FolderError, "another run works in")
         first.require_name()
         (case.out / "lock").unlink()
         with pytest.raises(RunError, match="lock was removed or replaced"):
@@ -186,8 +120,7 @@ def test_each_call(case: RunCase) -> None:
             if before:
                 case.run_over(limits=before, most=100)
             was_ended = is_ended(case, after, limits)
-            case.run_over(limits=limits, most=100)
-            assert case.verdicts() == expected_verdicts(given, limits), (after, limits)
+            case.require_verdicts(limits=limits, most=100)
             assert [path.name for path in case.out.rglob("*.part")] == []
             published = publish(case.top / ("%d-%d.tar" % (after, len(limits) + len(before))), case.out)
             assert published.confirmed + published.open == given.count(b"\n") + 1
@@ -199,47 +132,34 @@ def test_a_folder_without_what_it_was_begun_with(case: RunCase) -> None:
     """Its files show that they are a run's; one that doesn't is somebody else's."""
     case.run_over()
     (case.out / "run.json").unlink()
-    whole = contents(case.out)
+    shutil.copytree(case.out, case.top / "whole")
     texts = dict.fromkeys(("README.txt", "pass-1/1-7", "pass-2/notes", "pass-3/1-20"), "mine")
     texts.update(dict.fromkeys(("verdicts.txt.part", "pass-1/1-20.part"), "mine, too"))
     texts.update({"summary.json": "{}", "verdicts.txt": "mine\t1\n", "letters": ""})
     for name, text in texts.items():
         shutil.rmtree(case.out)
-        for path, data in whole.items():
-            pathlib.Path(path).parent.mkdir(parents=True, exist_ok=True)
-            pathlib.Path(path).write_bytes(data)
+        shutil.copytree(case.top / "whole", case.out)
         (case.out / name).parent.mkdir(exist_ok=True)
         (case.out / name).write_text(text)
         before = contents(case.out)
-        with pytest.raises(FolderError, match="has other files in it, as %s" % os.path.basename(name)):
-            case.run_over()
+        case.require_error(FolderError, "has other files in it, as %s" % os.path.basename(name))
         assert contents(case.out) == before
-    shutil.rmtree(case.out)
 
 
 def test_what_a_killed_run_left_is_removed(case: RunCase) -> None:
-    for name, text in (
-        ("run.json", b""),
-        ("summary.json", b'{\n  "form'),
-        ("README.txt", b"Verdicts on the"),
-    ):
-        case.out.mkdir(exist_ok=True)
-        (case.out / (name + ".part")).write_bytes(text)
-    (case.out / "verdicts.txt.2.part").write_bytes(expected_verdicts(LIST)[:50])
-    case.run_over()
+    parts = {"run.json.part": b"", "summary.json.part": b'{\n  "form', "README.txt.part": b"Verdicts on the"}
+    case.out.mkdir()
+    for name, text in {**parts, "verdicts.txt.2.part": expected_verdicts(LIST)[:50]}.items():
+        (case.out / name).write_bytes(text)
+    case.require_verdicts()
     assert [name for name in os.listdir(case.out) if name.endswith(".part")] == []
-    assert case.verdicts() == expected_verdicts(LIST)
 
 
 def test_chunks_that_were_being_written(small: RunCase) -> None:
     """A part that begins as a chunk is removed; another one stays."""
-    data = small.chunk().read_bytes()
-    for name, text in (
-        ("1-5.part", data[:300]),
-        ("1-5.2.part", b""),
-        ("6-9.part", b"mine"),
-        ("6-9.lock", b""),
-    ):
+    begin = small.chunk().read_bytes()[:300]
+    parts = {"1-5.part": begin, "1-5.2.part": b"", "6-9.part": b"mine", "6-9.lock": b""}
+    for name, text in parts.items():
         (small.out / "pass-1" / name).write_bytes(text)
     small.run_over(limits=[SMALL])
     assert [path.name for path in (small.out / "pass-1").iterdir() if "." in path.name] == ["6-9.part"]
@@ -259,14 +179,12 @@ def test_chunks_and_passes_that_are_replaced_meanwhile(case: RunCase) -> None:
 
     for at in (0, 30):
         case.out = case.top / str(at)
-        with pytest.raises(RunError, match="1-1 was (cut or changed|made or replaced by another)"):
-            case.run_over(act(replace_chunk, at), limits=[SMALL])
+        sentence = "1-1 was (cut or changed|made or replaced by another)"
+        case.require_error(RunError, sentence, act(replace_chunk, at), limits=[SMALL])
         assert (case.out / "pass-1" / "1-1").read_text() == "mine"
-        case.run_over(limits=[SMALL])
-        assert case.verdicts() == expected_verdicts(LIST, [SMALL])
+        case.require_verdicts(limits=[SMALL])
     case.out = case.top / "other"
-    with pytest.raises(MovedError):
-        case.run_over(act(replace_pass, 3), limits=[SMALL])
+    case.require_error(MovedError, "", act(replace_pass, 3), limits=[SMALL])
     assert (case.out / "pass-1" / "1-1").read_text() == "mine"
 
 
@@ -275,8 +193,7 @@ def test_folders_of_passes_that_are_not_asked_for(case: RunCase) -> None:
     (case.out / "pass-7").mkdir()
     (case.out / "pass-7" / "notes").write_text("mine")
     case.run_over(limits=[SMALL])
-    case.run_over(limits=PASSES)
-    assert case.verdicts() == expected_verdicts(LIST)
+    case.require_verdicts()
     assert (case.out / "pass-7" / "notes").read_text() == "mine"
 
 
@@ -286,7 +203,7 @@ def test_a_summary_has_the_checksum_of_the_verdicts(case: RunCase) -> None:
         case.run_over(limits=limits)
         with contextlib.closing(folder.FinishedRun(str(case.out))) as found:
             assert found.checksum == _files.Checksum().add_bytes(case.verdicts())
-            assert (found.identity, found.lines) == (chunks.identity(), 370)
+            assert (found.identity, found.lines) == (replies.identity(), 370)
             assert found.results[0].lines == 370
 
 

@@ -1,6 +1,5 @@
 """Reading lists as people have them, lines that never end, and numbers of options in each command."""
 
-import functools
 import gzip
 import importlib.util
 import io
@@ -10,15 +9,12 @@ import os
 import pathlib
 import random
 import re
-import resource
-import subprocess
 import sys
 import time
 from typing import Any, Iterator
 from unittest import mock
 
 import budlarem
-import hypothesis
 import pytest
 from budlarem import Columns, EncodingError, Form, Reading, Rewriting, Skipped
 from budlarem._text import LONGEST_LINE
@@ -30,8 +26,8 @@ from budlarem import list_files
 from budlarem.list_files import EndlessLineError, find_encoding
 from budlarem.reading.lines import read_line
 from budlarem.reading.readings import ADVICE
-from hypothesis import strategies as st
 from support import TOP
+from support.program import run_command
 
 CHAMPION = "1RB1LB_1LA1RZ"
 FORMS = TOP / "tests" / "support" / "forms.json"
@@ -140,13 +136,15 @@ def test_paths_files_and_lines(tmp_path: pathlib.Path) -> None:
         assert machines(lines) == right
 
 
-def test_bytes_that_are_no_text() -> None:
-    assert machines(io.BytesIO(b"\xff 1RA1RA \x80\n1RA\xff1RA\n")) == [(1, "1RA1RA"), (2, None)]
-
-
-def test_a_long_line_of_bytes() -> None:
-    lines = b"x" * 1_000_000 + b"\n1RA1RA\n" + b"1RA1RA," * 100_000
-    assert machines(io.BytesIO(lines)) == [(1, None), (2, "1RA1RA"), (3, None)]
+@pytest.mark.parametrize(
+    "content, right",
+    [
+        (b"\xff 1RA1RA \x80\n1RA\xff1RA\n", [(1, "1RA1RA"), (2, None)]),
+        (b"x" * 1_000_000 + b"\n1RA1RA\n" + b"1RA1RA," * 100_000, [(1, None), (2, "1RA1RA"), (3, None)]),
+    ],
+)
+def test_bytes_that_are_no_text_and_long_lines(content: bytes, right: list[Any]) -> None:
+    assert machines(io.BytesIO(content)) == right
 
 
 def test_a_line_is_read_when_it_is_needed() -> None:
@@ -195,59 +193,15 @@ def test_empty_lines_have_their_numbers() -> None:
     assert readings.skips[Skipped.EMPTY] == 2_000_002
 
 
-def test_bytes_that_are_no_utf_8_are_counted() -> None:
-    readings = budlarem.read(io.BytesIO("1RA1RA \u00e9\n1RA1RA x\n1RA1RA \u00fc".encode("latin-1")))
-    assert [reading.machine for reading in readings] == ["1RA1RA"] * 3
-    assert readings.non_utf8_lines == 2
-
-
-def table_machines(lines: list[str], columns: Columns, form: Form = Form.TABLE) -> list[Reading]:
-    """The readings of the records of a table of claims."""
-    readings = (one.claim.reading for one in budlarem.judge(lines, form=form, columns=columns))
-    return list(readings)
-
-
 def test_tables() -> None:
-    for lines, columns, machines in (
-        (["machine,x", "1ra1ra,1", '"1RA1RA","a, b"'], Columns(), ["1RA1RA", "1RA1RA"]),
-        (["# machine\tx", "1RA1RA\t1", "------\t2"], Columns(), ["1RA1RA", "------"]),
-        (["1;1RA1RA", "2;x", "3;1RA1RA;4"], Columns("2"), ["1RA1RA", None, None]),
-        (["a,bb", "1,1RA1RA"], Columns("BB"), ["1RA1RA"]),
-        (["|machine|", "|-", "| `1RA1RA` |", "#17 1RA1RA", "# c"], Columns(), ["1RA1RA", None]),
-    ):
-        assert [reading.machine for reading in table_machines(lines, columns)] == machines, lines
-    reasons = [reading.reason for reading in table_machines(["1;1RA1RA", "2;x", "3"], Columns("2"))]
-    assert [reason.kind for reason in reasons if reason] == ["none", "row"]
-    quoted = table_machines(["machine,x", '1RA1RA,"a""b', '1RA1RA,"a,b"'], Columns())
-    assert [reading.row for reading in quoted] == [(), ("1RA1RA", "a,b")]
+    judging = budlarem.judge(["machine,x", '1RA1RA,"a""b', '1RA1RA,"a,b"'])
+    assert [one.claim.reading.row for one in judging] == [(), ("1RA1RA", "a,b")]
     for form in (Form.TABLE, Form.CSV, Form.TSV):
         with pytest.raises(ValueError, match="the form %s is of claims" % form):
             budlarem.read(["1RA1RA"], form)
 
 
-def test_tables_whose_layout_is_not_known() -> None:
-    for lines, form, columns, text in (
-        (["1RA1RA,1"], Form.TABLE, Columns(), "give it by --machine"),
-        (["1RA1RA,1"], Form.TABLE, Columns("3"), "no separator"),
-        (["machine,x", "1RA1RA,1"], Form.CSV, Columns(verdict="y"), "no columns have the name y"),
-        (["machine,x", "1RA1RA,1"], Form.TABLE, Columns(verdict="7"), "no column 7"),
-        (["x,1RA1RA,y;1RA1RA;z"], Form.TABLE, Columns("2"), "may be comma or semicolon"),
-        (["1RA1RA"], Form.TEXT, Columns("1"), "columns are of the forms table, csv and tsv"),
-    ):
-        with pytest.raises(ValueError, match=text):
-            table_machines(lines, columns, form)
-    assert table_machines(["x,1RA1RA,y;1RA1RA;z"], Columns("2"), Form.CSV)[0].machine == "1RA1RA"
-
-
-CELLS = [
-    "1RB1LB_1LA1RZ",
-    "1RA1RA",
-    "not 1RA1RA",
-    "`1RA1RA`",
-    "{{TM|1RA1RA|halt}}",
-    "1RB1LC_1LA1RZ",
-    "machine",
-]
+CELLS = [CHAMPION, "1RB1LC_1LA1RZ", "1RA1RA", "not 1RA1RA", "`1RA1RA`", "{{TM|1RA1RA|halt}}", "machine"]
 CELLS += ["tm", "status", "halt", "-halt", "6", '"a,b"', '"', "", "x", "#", "------"]
 
 
@@ -256,137 +210,67 @@ def test_no_record_with_a_machine_is_passed_over() -> None:
     source, read = random.Random(1), 0
     for _ in range(3_000):
         separators = source.choices((",", ";", "\t", "|", " ", " | "), k=2)
-        lines = [
-            source.choice(separators).join(source.choices(CELLS, k=source.randint(1, 4))) for _ in range(4)
-        ]
-        columns = (
-            Columns(*source.choices((None, None, "1", "2", "TM"), k=2))
-            if source.random() < 0.4
-            else Columns()
-        )
+        rows = [source.choices(CELLS, k=source.randint(1, 4)) for _ in range(4)]
+        lines = [source.choice(separators).join(row) for row in rows]
+        names = source.choices((None, None, "1", "2", "TM"), k=2) if source.random() < 0.4 else []
         try:
-            form = RereadableList(lines, source.choice((None, *Form)), columns).form
+            form = RereadableList(lines, source.choice((None, *Form)), Columns(*names)).form
         except ValueError:
             continue
         for number, line in enumerate(lines, 1):
             if "1R" in line:
                 reading = form.read(number, line)
-                assert isinstance(reading, Reading) and (reading.machine is None) == (
-                    reading.reason is not None
-                )
+                assert isinstance(reading, Reading)
+                assert (reading.machine is None) == (reading.reason is not None)
                 read += 1
     assert read > 500
 
 
-# A machine in a line, however it is written.
+# A machine in a line, however it is written, and what may stand beside it in a header or another skipped line.
 HAS_MACHINE = re.compile(
     r"(?:[0-9][LRlr][A-Za-z]|---|\.\.\.)(?:[_ ]{0,2}(?:[0-9][LRlr][A-Za-z]|---|\.\.\.))+"
 )
+MACHINES = [CHAMPION, "1ra1ra", "------_------", "1RB 1LB  1LA 1R_", "1RB1LB1LA1RZ"]
+BESIDE = ["", "machine,", "! ", "| TM | ", "# ", "// ", "```", "|- ", "{| ", "{{TM|", "code;", "\t", "halt, "]
 
 
 def test_no_line_with_a_machine_is_passed_over() -> None:
-    """Each line of the forms with entries of a machine has a machine, or a refusal with its number."""
+    """Each line with entries of a machine has a machine, or a refusal with its number."""
     lines = [form["line"] for form in LISTED["forms"]]
     lines += [line for entry in LISTED["lists"] + LISTED["judged"] for line in entry["lines"]]
-    with_machines = [line for line in lines if (found := HAS_MACHINE.search(line)) and found[0].strip("-. ")]
-    assert len(with_machines) > 250
-    for line in with_machines:
-        for form in (None, Form.TEXT, Form.MACHINES, Form.VERDICTS):
-            (reading,) = [one for one in budlarem.read(["# c", "", line], form) if one.number == 3]
-            assert (reading.machine is None) == (reading.reason is not None), line
+    lines = [line for line in lines if (found := HAS_MACHINE.search(line)) and found[0].strip("-. ")]
+    assert len(lines) > 250
+    for before, machine, behind in itertools.product([*BESIDE, "refused 3 "], MACHINES, BESIDE):
+        lines += [before + machine + behind, before + machine + " " + behind[::-1]]
+    for line, form in itertools.product(lines, (None, Form.TEXT, Form.MACHINES, Form.VERDICTS)):
+        (reading,) = [one for one in budlarem.read(["# c", "", line], form) if one.number == 3]
+        assert (reading.machine is None) == (reading.reason is not None), line
 
 
-NAMES = (
-    "",
-    "machine,",
-    "! ",
-    "| TM | ",
-    "# ",
-    "// ",
-    "```",
-    "|- ",
-    "{| ",
-    "{{TM|",
-    "code;",
-    "\t",
-    "refused 3 ",
-    "halt, ",
-)
-
-
-@pytest.mark.parametrize("machine", [CHAMPION, "1ra1ra", "------_------", "1RB 1LB  1LA 1R_", "1RB1LB1LA1RZ"])
-def test_no_line_with_a_machine_is_a_header(machine: str) -> None:
-    for before, behind in itertools.product(NAMES, NAMES):
-        for line in (before + machine + behind, before + machine + " " + behind[::-1]):
-            for form in (Form.TEXT, Form.MACHINES, Form.VERDICTS):
-                reading = one(line, form)
-                assert (reading.machine is None) == (reading.reason is not None)
-
-
-def test_long_lines_take_time_in_proportion() -> None:
+def test_long_lines_take_little_time() -> None:
     for text in ("`1RB`", "1RB ", "A: 1RA1LA ", "1RA1RA,", '[["1RB"', "1RA1RA ... "):
-        spent: dict[int, float] = {}
-        for size in (LONGEST_LINE // 8, LONGEST_LINE):
-            before = time.process_time()
-            assert len(list(budlarem.read([(text * size)[:size]], Form.TEXT))) == 1
-            spent[size] = time.process_time() - before
-        assert spent[LONGEST_LINE] < 1, (text, spent)
-
-
-ENTRIES = st.one_of(st.just("---"), st.from_regex("[01][LR][A-GZ]", fullmatch=True))
-AROUND = ("%s", "17. %s", "%s halt 6 4", "a,%s,b", "`%s`", "[%s](https://x.org/y)", "%s\r")
-
-
-@hypothesis.settings(deadline=None, max_examples=2_000)
-@hypothesis.given(
-    entries=st.lists(ENTRIES, min_size=4, max_size=14),
-    between=st.sampled_from(("_", " ", "")),
-    changes=st.sets(st.sampled_from(("dots", "H", "small"))),
-    around=st.sampled_from(AROUND),
-)
-def test_a_machine_comes_back(entries: list[str], between: str, changes: set[str], around: str) -> None:
-    """Machines of up to seven states in any form are read as they were, or refused."""
-    states = len(entries) // 2
-    rows = [entry if entry[2] <= "ABCDEFG"[states - 1] else entry[:2] + "Z" for entry in entries]
-    groups = ["".join(rows[k : k + 2]) for k in range(0, 2 * states, 2)]
-    text = between.join(groups)
-    text = text.replace("---", "...") if "dots" in changes else text
-    text = text.replace("Z", "H") if "H" in changes else text
-    line = around % (text.lower() if "small" in changes else text)
-    # The one form in which bb itself reads another machine.
-    bare = line.strip()
-    is_other = "_" not in line and budlarem.is_machine(bare)
-    assert one(line).machine in (bare if is_other else "_".join(groups), None)
+        before = time.process_time()
+        assert len(list(budlarem.read([(text * LONGEST_LINE)[:LONGEST_LINE]], Form.TEXT))) == 1
+        assert time.process_time() - before < 1, text
 
 
 MILLION = ("1000000", "1,000,000", "1_000_000", "1e6", "1E+6", "10^6", "+1000000", "1.0e6")
-# Every command that has options of numbers, with the words that it needs.
-NEEDED = ["read", "decide", "normal", "check", "judge list", "compare a b", "report --out page.html"]
-NEEDED += ["run list --out folder", "publish out.tar --verdicts verdicts.txt", "trace --upto 1 1RB1LB_1LA1RZ"]
-NEEDED += ["picture --upto 1 --out picture.png 1RB1LB_1LA1RZ"]
-COMMANDS = {words.split()[0]: words.split() for words in NEEDED}
-
-
-def numbers_of(command: str) -> list[str]:
-    """The options of a command whose value is a number."""
-    choices = next(action.choices for action in build_parser()._actions if isinstance(action.choices, dict))
-    actions = [action for action in choices[command]._actions if action.metavar in ("N", "P", "LINES")]
-    return [action.option_strings[0] for action in actions if action.option_strings]
 
 
 def test_every_option_of_every_command() -> None:
+    commands = next(action.choices for action in build_parser()._actions if isinstance(action.choices, dict))
     tried = 0
-    for command, given in COMMANDS.items():
-        for option in numbers_of(command):
-            for text in MILLION:
-                asked = build_parser().parse_args([*given, option, text])
-                assert getattr(asked, option[2:].replace("-", "_")) == 1_000_000
-                tried += 1
-    assert tried > 100
+    for command in commands.values():
+        options = [action for action in command._actions if action.option_strings]
+        for option in [one for one in options if one.metavar in ("N", "P", "LINES")]:
+            assert {command._get_value(option, text) for text in MILLION} == {1_000_000}, option
+            tried += 1
+    assert tried > 25
 
 
 def test_positions() -> None:
-    asked = build_parser().parse_args([*COMMANDS["picture"], "--left=-1,000", "--right", "1e3"])
+    words = "picture --upto 1 --out picture.png 1RB1LB_1LA1RZ --left=-1,000 --right 1e3"
+    asked = build_parser().parse_args(words.split())
     assert (asked.left, asked.right) == (-1_000, 1_000)
 
 
@@ -411,23 +295,9 @@ def test_a_pass() -> None:
             limits_of(text)
 
 
-# Writes a line that never ends, after some that do.
-ENDLESS = (
-    "import sys\nwrite = sys.stdout.buffer.write\nwrite(b'1RA1RA\\n' * 300)\n"
-    "while True: write(b'1RA1RA,' * 9999)"
-)
-
-
-def run_endless(*given: str) -> subprocess.CompletedProcess[str]:
-    """The command over a line that never ends, with at most 1 GB of memory for its data."""
-    command = [sys.executable, "-m", "budlarem", *given]
-    with subprocess.Popen([sys.executable, "-c", ENDLESS], stdout=-1, stderr=subprocess.DEVNULL) as feeder:
-        try:
-            set_limit = functools.partial(resource.setrlimit, resource.RLIMIT_DATA, (1 << 30, 1 << 30))
-            how: dict[str, Any] = {"stdin": feeder.stdout, "timeout": 60, "preexec_fn": set_limit}
-            return subprocess.run(command, capture_output=True, text=True, **how)
-        finally:
-            feeder.kill()
+# A command over a line that never ends, after 300 that do, with at most 1 GB of memory for its data.
+ENDLESS = "(yes 1RA1RA | head -300; yes 1RA1RA, | tr -d '\\n')"
+OVER_ENDLESS = 'ulimit -d 1048576; %s | timeout 60 "$0" -m budlarem "$@"' % ENDLESS
 
 
 def test_commands_over_a_line_that_never_ends(tmp_path: pathlib.Path) -> None:
@@ -438,9 +308,9 @@ def test_commands_over_a_line_that_never_ends(tmp_path: pathlib.Path) -> None:
         cases["report --form text --out %s" % (tmp_path / "report.html")] = (2, "standard input: " + more)
     cases["run - --out %s" % (tmp_path / "out")] = (3, "a line of more than 268,435,456 bytes and no newline")
     for given, (status, sentence) in cases.items():
-        ended = run_endless(*given.split(" "))
-        assert ended.returncode == status and sentence in ended.stderr, ended.stderr
-        assert "Traceback" not in ended.stderr
+        ended = run_command(["sh", "-c", OVER_ENDLESS, sys.executable, *given.split(" ")])
+        error = ended.error.decode()
+        assert ended.status == status and sentence in error and "Traceback" not in error, error
 
 
 def test_lines_that_never_end() -> None:

@@ -18,23 +18,10 @@ from typing import Any, Callable, Sequence
 import budlarem
 import pytest
 from budlarem import Limits, _files
-from budlarem.runner import chunks, folder, input, pass_folder, passes, store
+from budlarem.runner import chunks, folder, input, pass_folder, replies, store
 from budlarem.runner.errors import CheckError, DeadWorkersError, FolderError, MovedError, RunError, UsageError
 from python.tests.runner import KINDS, LIST, MIDDLE, PASSES, SMALL, Answering, KeptProgress, Late, RunCase
 from python.tests.runner import PoolBackend, act, answer_with, counts_of, expected_verdicts, reseal
-
-
-def require_verdicts(
-    case: RunCase, executor: Any = None, limits: Sequence[Limits] = PASSES, **how: Any
-) -> pass_folder.Outcome:
-    outcome = case.run_over(executor, limits, **how)
-    assert case.verdicts() == expected_verdicts(case.list.read_bytes(), limits)
-    return outcome
-
-
-def require_error(case: RunCase, error: type[Exception], text: str, executor: Any = None, **how: Any) -> None:
-    with pytest.raises(error, match=text):
-        case.run_over(executor, **how)
 
 
 def chunks_of(case: RunCase) -> dict[str, bytes]:
@@ -47,7 +34,7 @@ def test_lists_and_passes(case: RunCase) -> None:
     for place, (given, limits) in enumerate(itertools.product(lists, (PASSES, [SMALL], [MIDDLE, SMALL]))):
         case.list.write_bytes(given)
         case.out = case.top / str(place)
-        outcome = require_verdicts(case, limits=limits)
+        outcome = case.require_verdicts(limits=limits)
         assert outcome.lines == sum(outcome.counts.values()) == case.verdicts().count(b"\n")
 
 
@@ -61,7 +48,7 @@ def test_the_summary(case: RunCase) -> None:
     assert (first["lines"], second["lines"]) == (370, left)
     assert (sum(first["counts"].values()), sum(second["counts"].values())) == (370, left)
     assert summary["counts"] == counts_of(case.verdicts())
-    assert (first["checked"], summary["version"]) == (True, chunks.identity().version)
+    assert (first["checked"], summary["version"]) == (True, replies.identity().version)
     assert (summary["commit"], len(summary["library"])) == (budlarem.COMMIT, 64)
 
 
@@ -76,13 +63,15 @@ def test_lines_keep_their_numbers(case: RunCase) -> None:
 
 
 def test_whole_passes_are_added(small: RunCase) -> None:
-    before, executor = chunks_of(small), Answering()
-    os.link(small.out / "verdicts.txt", small.top / "kept")
+    """The verdicts are linked, and moved away meanwhile: they stay as they are."""
+    verdicts, kept, moved = small.out / "verdicts.txt", small.top / "kept", small.top / "moved"
+    before, executor = chunks_of(small), act(lambda: os.rename(verdicts, moved), 0)
+    os.link(verdicts, kept)
     for _ in range(2):
-        require_verdicts(small, executor)
+        small.require_verdicts(executor)
         assert chunks_of(small) == before
         assert executor.count == len(small.records(2))
-    assert (small.top / "kept").read_bytes() == expected_verdicts(LIST, [SMALL])
+    assert kept.read_bytes() == moved.read_bytes() == expected_verdicts(LIST, [SMALL])
 
 
 def test_what_stands_is_not_decided_again(case: RunCase) -> None:
@@ -97,12 +86,6 @@ def test_what_stands_is_not_decided_again(case: RunCase) -> None:
         assert executor.count == count
 
 
-def test_the_same_list_compressed(small: RunCase) -> None:
-    path = small.top / "list.txt.gz"
-    path.write_bytes(gzip.compress(LIST))
-    require_verdicts(small, path=str(path))
-
-
 def test_another_list(case: RunCase) -> None:
     case.run_over()
     packed = case.top / "list.gz"
@@ -110,9 +93,11 @@ def test_another_list(case: RunCase) -> None:
     for given in (other, LIST + KINDS, LIST[: -len(KINDS)], b"", KINDS + LIST):
         for path, written in ((case.list, given), (packed, gzip.compress(given))):
             path.write_bytes(written)
-            require_error(case, FolderError, "isn't the list that", path=str(path))
+            case.require_error(FolderError, "isn't the list that", path=str(path))
+    packed.write_bytes(gzip.compress(LIST))
     case.list.write_bytes(LIST)
-    require_verdicts(case)
+    for path in (case.list, packed):
+        case.require_verdicts(path=str(path))
 
 
 def config_of(text: str) -> Any:
@@ -122,41 +107,34 @@ def config_of(text: str) -> Any:
 def test_changed_passes_and_libraries(case: RunCase) -> None:
     case.run_over()
     for limits in ([SMALL], [MIDDLE, SMALL], [MIDDLE], [SMALL, SMALL, MIDDLE]):
-        require_error(case, FolderError, "started with other passes", limits=limits)
+        case.require_error(FolderError, "started with other passes", limits=limits)
     path = case.out / "run.json"
     written = path.read_text()
     config = config_of(written)
     assert config is not None
     other = dataclasses.replace(config.identity, library="0" * 64)
     path.write_text(dataclasses.replace(config, identity=other).text())
-    require_error(case, FolderError, "another library")
+    case.require_error(FolderError, "another library")
     for text in (written.replace('"format": 4', '"format": 1'), '{"format": 1, "passes": []}\n'):
         path.write_text(text)
-        require_error(case, FolderError, "run.json: it has format 1, which another version")
+        case.require_error(FolderError, "run.json: it has format 1, which another version")
 
 
 def test_what_a_folder_was_begun_with() -> None:
     keep = chunks.Retention(True, 7)
-    config = folder.RunConfig(list(PASSES), keep, chunks.identity(), "\udcff list \u1234", 5, None, "--check")
+    config = folder.RunConfig(
+        list(PASSES), keep, replies.identity(), "\udcff list \u1234", 5, None, "--check"
+    )
     text = config.text()
     assert config_of(text) == config
     assert json.loads(text)["list"]["bytes"] == 5
     for size in range(len(text)):
         assert config_of(text[:size]) is None
-    for place, bit in itertools.product(range(len(text)), range(8)):
-        changed = text[:place] + chr(ord(text[place]) ^ 1 << bit) + text[place + 1 :]
+    bits = itertools.product(range(len(text)), range(8))
+    changed = [text[:place] + chr(ord(text[place]) ^ 1 << bit) + text[place + 1 :] for place, bit in bits]
+    for one in (*changed, text + " ", "hello", "[" * 10_000, "5\n", "{}\n"):
         with pytest.raises(store.SealError):
-            config_of(changed)
-    for other in (text + " ", "hello", "[" * 10_000, "5\n", "{}\n"):
-        with pytest.raises(store.SealError):
-            config_of(other)
-
-
-def test_two_runs_in_a_folder(case: RunCase) -> None:
-    with contextlib.closing(folder.Folder(str(case.out))):
-        assert list(case.out.iterdir()) == [], "the folder itself is locked"
-        require_error(case, FolderError, "another run works in")
-    case.run_over()
+            config_of(one)
 
 
 def test_a_list_that_would_be_overwritten(case: RunCase) -> None:
@@ -174,30 +152,24 @@ def test_a_list_that_would_be_overwritten(case: RunCase) -> None:
 
 
 def test_files_that_were_cut_or_changed(case: RunCase) -> None:
+    """A changed `run.json` is refused; of anything else the right verdicts come."""
     case.run_over(most=60)
-    files = sorted(path for path in case.out.rglob("*") if path.is_file())
     chance = random.Random(1)
     shutil.copytree(case.out, case.top / "whole")
-    for path, how in itertools.product(files, range(4)):
-        shutil.rmtree(case.out)
-        shutil.copytree(case.top / "whole", case.out)
+    for path in sorted(path for path in case.out.rglob("*") if path.is_file()):
         data = path.read_bytes()
-        if how == 0:
+        place = chance.randrange(len(data))
+        flipped = data[:place] + bytes([data[place] ^ 1]) + data[place + 1 :]
+        for changed in (None, data[: len(data) // 2], flipped, data + data):
+            shutil.rmtree(case.out)
+            shutil.copytree(case.top / "whole", case.out)
             path.unlink()
-        elif how == 1:
-            path.write_bytes(data[: len(data) // 2])
-        elif how == 2 and data:
-            place = chance.randrange(len(data))
-            path.write_bytes(data[:place] + bytes([data[place] ^ 1]) + data[place + 1 :])
-        elif path.name != "run.json":
-            path.write_bytes(data + data)
-        try:
-            case.run_over(most=60)
-        except FolderError:
-            assert path.name == "run.json"
-            path.write_bytes(data)
-            case.run_over(most=60)
-        assert case.verdicts() == expected_verdicts(LIST), (path, how)
+            if changed is not None:
+                path.write_bytes(changed)
+            if path.name == "run.json" and changed in (flipped, data + data):
+                case.require_error(FolderError, "run.json: it was changed", most=60)
+                path.write_bytes(data)
+            case.require_verdicts(most=60)
 
 
 def test_chunks_that_are_missing_in_the_middle(case: RunCase) -> None:
@@ -208,21 +180,21 @@ def test_chunks_that_are_missing_in_the_middle(case: RunCase) -> None:
             for place in {0, len(names) // 3, len(names) // 3 + 1, len(names) // 2, len(names) - 1}:
                 (case.out / ("pass-%d" % number) / names[place]).unlink()
         executor = Answering()
-        require_verdicts(case, executor, most=most)
+        case.require_verdicts(executor, most=most)
         assert executor.count < len(names)
 
 
 def test_a_changed_chunk_while_passes_are_merged(small: RunCase) -> None:
     """So while the verdicts of one pass are written: nothing is joined that doesn't fit its seal."""
     cut = act(lambda: os.truncate(small.chunk(), 700))
-    require_error(small, RunError, "was cut or changed", cut)
-    require_verdicts(small)
+    small.require_error(RunError, "was cut or changed", cut)
+    small.require_verdicts()
     small.out = small.top / "one"
     at_end = unittest.mock.Mock(side_effect=lambda: os.truncate(small.chunk(), 700))
     with unittest.mock.patch.object(pass_folder.PassFolder, "remove_stale", at_end):
-        require_error(small, RunError, "was cut or changed", limits=[SMALL])
+        small.require_error(RunError, "was cut or changed", limits=[SMALL])
     assert not (small.out / "verdicts.txt").exists()
-    require_verdicts(small, limits=[SMALL])
+    small.require_verdicts(limits=[SMALL])
 
 
 @pytest.mark.parametrize("name", ["000000001.txt", "journal", "pieces"])
@@ -230,45 +202,26 @@ def test_a_folder_of_an_older_version(case: RunCase, name: str) -> None:
     """With its `run.json` and without: it stays as it is."""
     (case.out / "pass-1").mkdir(parents=True)
     (case.out / "pass-1" / name).write_text("kept")
-    require_error(case, FolderError, "another version of this package wrote; finish it by that version")
+    case.require_error(FolderError, "another version of this package wrote; finish it by that version")
     old = '{\n  "format": 3,\n  "bytes": "00000400",\n  "passes": []\n}\n'
     (case.out / "run.json").write_text(old)
-    require_error(case, FolderError, "it has format 3, which another version of this package writes")
+    case.require_error(FolderError, "it has format 3, which another version of this package writes")
     assert (case.out / "pass-1" / name).read_text() == "kept" and (case.out / "run.json").read_text() == old
 
 
-def test_verdicts_share_no_bytes_with_a_later_run(case: RunCase) -> None:
-    """A second name of the verdicts, and verdicts that were moved away, stay as they are."""
-    for is_moved in (False, True):
-        case.out = case.top / str(is_moved)
-        kept_lines = case.top / ("kept-%s" % is_moved)
-        case.run_over(limits=[SMALL])
-        os.link(case.out / "verdicts.txt", kept_lines)
-        if is_moved:
-            (case.out / "verdicts.txt").unlink()
-        for path in case.out.rglob("*"):
-            if path.is_file() and (is_moved or path.parent.name == "pass-1"):
-                path.unlink()
-        require_verdicts(case, limits=[SMALL], most=3)
-        assert not kept_lines.samefile(case.out / "verdicts.txt")
-        assert kept_lines.read_bytes() == expected_verdicts(LIST, [SMALL])
-
-
-def test_another_run_over_the_passes_of_one(small: RunCase) -> None:
-    """The verdicts were moved away, and all other files at the top removed."""
-    os.rename(small.out / "verdicts.txt", small.top / "kept")
-    for path in small.out.iterdir():
-        if path.is_file():
-            path.unlink()
+def test_verdicts_share_no_bytes_with_a_later_run(small: RunCase) -> None:
+    """A second name of them stays as it is, also when another list is decided over the chunks that are left."""
+    kept_lines, verdicts = small.top / "kept", small.out / "verdicts.txt"
+    os.link(verdicts, kept_lines)
+    for path in (small.out / "pass-1").iterdir():
+        path.unlink()
+    small.require_verdicts(limits=[SMALL], most=3)
+    for path in [path for path in small.out.iterdir() if path.is_file()]:
+        path.unlink()
     small.list.write_bytes(KINDS * 20)
-    require_verdicts(small, limits=[MIDDLE])
-    assert (small.top / "kept").read_bytes() == expected_verdicts(LIST, [SMALL])
+    small.require_verdicts(limits=[MIDDLE])
     assert sum(record.lines for record in small.records()) == 200
-
-
-def test_verdicts_that_are_moved_away_while_a_pass_is_added(small: RunCase) -> None:
-    require_verdicts(small, act(lambda: os.rename(small.out / "verdicts.txt", small.top / "kept"), 0))
-    assert (small.top / "kept").read_bytes() == expected_verdicts(LIST, [SMALL])
+    assert kept_lines.read_bytes() == expected_verdicts(LIST, [SMALL])
 
 
 def test_chunks_that_were_changed_in_place(small: RunCase) -> None:
@@ -279,31 +232,13 @@ def test_chunks_that_were_changed_in_place(small: RunCase) -> None:
         changed = bytearray(data)
         changed[place] ^= 1
         path.write_bytes(changed)
-        require_verdicts(small, limits=[SMALL])
+        small.require_verdicts(limits=[SMALL])
         assert "chunk %s of pass 1 is decided again: it was " % path.name in small.progress.kept.getvalue()
-        assert len(path.read_bytes()) == len(data)
-
-
-def test_a_folder_that_is_moved_removed_or_replaced(case: RunCase) -> None:
-    """Nothing is written into the other folder, and the run can be resumed."""
-    others = {"verdicts.txt": "mine", "run.json": "mine", "README.txt": "mine", "pass-2": "mine"}
-
-    def replace() -> None:
-        os.rename(case.out, case.top / "moved")
-        case.out.mkdir()
-        for name, text in others.items():
-            (case.out / name).write_text(text)
-
-    require_error(case, MovedError, "isn't the folder that was opened any more", act(replace, 5))
-    assert {path.name: path.read_text() for path in case.out.iterdir()} == others
-    case.out = case.top / "moved"
-    executor = Answering()
-    require_verdicts(case, executor)
-    assert executor.count < len(case.records(1)) + len(case.records(2))
+        assert path.read_bytes().partition(b"\n}\n")[2] == data.partition(b"\n}\n")[2]
 
 
 def test_a_folder_that_is_removed(case: RunCase) -> None:
-    require_error(case, MovedError, "", act(lambda: shutil.rmtree(case.out, ignore_errors=True)))
+    case.require_error(MovedError, "", act(lambda: shutil.rmtree(case.out, ignore_errors=True)))
     assert not case.out.exists()
 
 
@@ -317,12 +252,12 @@ def test_a_file_that_another_makes_meanwhile(case: RunCase, name: str) -> None:
         path.write_text("mine")
 
     if name == "README.txt":
-        require_verdicts(case, act(replace))
+        case.require_verdicts(act(replace))
     else:
-        require_error(case, RunError, name + " was made or replaced by another", act(replace))
+        case.require_error(RunError, name + " was made or replaced by another", act(replace))
     assert path.read_text() == "mine"
     path.unlink()
-    require_verdicts(case)
+    case.require_verdicts()
 
 
 def test_a_link_to_the_folder_that_is_pointed_elsewhere(case: RunCase) -> None:
@@ -335,7 +270,7 @@ def test_a_link_to_the_folder_that_is_pointed_elsewhere(case: RunCase) -> None:
         case.out.unlink()
         case.out.symlink_to(elsewhere)
 
-    require_error(case, MovedError, "", act(point_elsewhere, 5))
+    case.require_error(MovedError, "", act(point_elsewhere, 5))
     assert list(elsewhere.iterdir()) == []
 
 
@@ -348,21 +283,20 @@ REFUSED = unittest.mock.Mock(side_effect=OSError(errno.EPERM, "it can't"))
 def test_chunks_in_some_order(case: RunCase, order: list[int], links: Any) -> None:
     """None is lost, and the whole is in the list's order."""
     top = case.enter_context(contextlib.closing(folder.Folder(str(case.out))))
-    config = folder.RunConfig([SMALL], chunks.Retention(), chunks.identity(), "list")
+    config = folder.RunConfig([SMALL], chunks.Retention(), replies.identity(), "list")
     opened = case.enter_context(contextlib.closing(top.open_pass(config, 1)))
     texts = [b"%d\n" % index * (index % 7 + 1) for index in range(len(order))]
     with unittest.mock.patch.object(os, "link", links):
         for index in order:
             checksum = _files.Checksum().add_bytes(texts[index])
-            opened.write(
-                record := pass_folder.Record(index, 1, "", 0, False, (0,) * 7, checksum), texts[index]
-            )
+            record = pass_folder.Record(index, 1, "", 0, False, {}, checksum)
+            opened.write(record, texts[index])
             opened.add(record)
     assert top.write_verdicts([opened]) == _files.Checksum().add_bytes(b"".join(texts))
     assert case.verdicts() == b"".join(texts)
     for _ in order[:1]:
         with pytest.raises(RunError, match="1-1 was made or replaced by another process"):
-            opened.write(pass_folder.Record(0, 1, "", 0, False, (0,) * 7), b"")
+            opened.write(pass_folder.Record(0, 1, "", 0, False, {}), b"")
 
 
 def kept_lines(limits: Sequence[Limits], halts: int) -> bytes:
@@ -382,8 +316,8 @@ def test_what_is_kept(case: RunCase) -> None:
         summary = json.loads((case.out / "summary.json").read_text())
         assert (summary["lines"], summary["kept"]) == (370, str(keep))
         dropped = "dropped before they were checked"
-        require_error(case, FolderError, dropped, limits=limits, keep=keep, check=True)
-        require_error(case, FolderError, "started with --keep left", limits=limits)
+        case.require_error(FolderError, dropped, limits=limits, keep=keep, check=True)
+        case.require_error(FolderError, "started with --keep left", limits=limits)
 
 
 def test_keep_passes_are_added(case: RunCase) -> None:
@@ -393,7 +327,7 @@ def test_keep_passes_are_added(case: RunCase) -> None:
     assert case.verdicts() == kept_lines(PASSES, 10**12)
     other = LIST.replace(b"------", b"1RZ---", 1)
     case.list.write_bytes(other)
-    require_error(case, FolderError, "isn't the list that", keep=keep, check=True)
+    case.require_error(FolderError, "isn't the list that", keep=keep, check=True)
 
 
 class Deadly(Answering):
@@ -412,11 +346,11 @@ class Deadly(Answering):
 
     def work(self) -> None:
         waiting, self.waiting = self.waiting, []
-        is_deadly = any(self.line in given[1] for _, given in waiting)
+        is_deadly = any(self.line in given[2] for _, given in waiting)
         self.deaths += is_deadly
         for future, given in waiting:
             if is_deadly:
-                future.set_exception(DeadWorkersError(repr(given[1][:-1])))
+                future.set_exception(DeadWorkersError(repr(given[2][:-1])))
             else:
                 future.set_result(super().submit(*given).result())
 
@@ -427,21 +361,11 @@ def test_a_line_that_ends_its_workers_is_named(case: RunCase, most: int) -> None
     case.list.write_bytes(LIST.replace(b"1RA1RA\n", b"1RZ1RZ\n", 5).replace(b"1RZ1RZ\n", b"1RA1RA\n", 4))
     deadly = Deadly(b"1RZ1RZ")
     sentence = "all but 1 chunks are stored; pass 1, line 44: every worker that did it died: b'1RZ1RZ'"
-    require_error(case, RunError, sentence, deadly, limits=[SMALL], most=most)
+    case.require_error(RunError, sentence, deadly, limits=[SMALL], most=most)
     assert not (case.out / "verdicts.txt").exists() and 2 <= deadly.deaths <= 7
     executor = Answering()
-    require_verdicts(case, executor, limits=[SMALL], most=most)
+    case.require_verdicts(executor, limits=[SMALL], most=most)
     assert executor.count == 1
-
-
-def test_a_line_of_a_later_pass_is_named(case: RunCase) -> None:
-    keep = chunks.Retention(True)
-    case.run_over(limits=[SMALL], keep=keep)
-    wrong, place = (
-        answer_with(b" undecided steps", b" unknown steps"),
-        "line [0-9]+ of the holdouts of pass 1",
-    )
-    require_error(case, RunError, "pass 2, %s: " % place, wrong, keep=keep)
 
 
 def test_words() -> None:
@@ -458,7 +382,7 @@ def test_words() -> None:
 
 
 def test_wrong_answers_now_and_then(case: RunCase) -> None:
-    answers: list[Callable[[chunks.ChunkReply], Any]] = [
+    answers: list[Callable[[replies.Reply], Any]] = [
         lambda reply: None,
         lambda reply: (b"", *reply[1:]),
         lambda reply: (reply[0][:-1], *reply[1:]),
@@ -472,54 +396,45 @@ def test_wrong_answers_now_and_then(case: RunCase) -> None:
     for place, answer in enumerate(answers):
         case.out = case.top / str(place)
         executor = Answering(lambda reply, before: answer(reply) if before in (1, 30) else reply)
-        require_verdicts(case, executor)
+        case.require_verdicts(executor)
         assert "trying again" in case.progress.kept.getvalue()
 
 
-def test_wrong_answers_each_time(case: RunCase) -> None:
-    for begin in (0, 5, 60):
-        case.out = case.top / str(begin)
-        executor = Answering(lambda reply, before: reply if before < begin else (b"x\n", *reply[1:]))
-        require_error(case, RunError, "pass [12], lines? .* tried 3 times", executor)
-        assert not (case.out / "verdicts.txt").exists()
-        require_verdicts(case)
+@pytest.mark.parametrize("begin", [0, 5, 60])
+def test_wrong_answers_each_time(case: RunCase, begin: int) -> None:
+    executor = Answering(lambda reply, before: reply if before < begin else (b"x\n", *reply[1:]))
+    case.require_error(RunError, "pass [12], lines? .* tried 3 times", executor)
+    assert not (case.out / "verdicts.txt").exists()
+    case.require_verdicts()
 
 
-def test_the_line_is_named(case: RunCase) -> None:
+@pytest.mark.parametrize(
+    "keep, sentence",
+    [
+        (chunks.Retention(), "pass 1, line [0-9]*9: '0RB1LD_0RC1RD_0RD---_1LA0RB unknown steps'"),
+        (chunks.Retention(True), "pass 2, line [0-9]+ of the holdouts of pass 1: "),
+    ],
+)
+def test_the_line_is_named(case: RunCase, keep: chunks.Retention, sentence: str) -> None:
+    if keep.only_holdouts:
+        case.run_over(limits=[SMALL], keep=keep)
     wrong = answer_with(b"_0RD---_1LA0RB undecided", b"_0RD---_1LA0RB unknown")
-    line = "line [0-9]*9: '0RB1LD_0RC1RD_0RD---_1LA0RB unknown steps'"
-    require_error(case, RunError, "pass 1, " + line, wrong)
-    require_verdicts(case)
+    case.require_error(RunError, sentence, wrong, keep=keep)
+    case.run_over(keep=keep)
 
 
 def test_late_answers_in_another_order(case: RunCase) -> None:
     case.list.write_bytes(b"".join(KINDS.splitlines(keepends=True)[:8]))
-    require_verdicts(case, Late(4), most=1, limits=[SMALL])
+    case.require_verdicts(Late(4), most=1, limits=[SMALL])
     assert len(case.records()) == 8
 
 
-def test_one_answer_for_two_chunks(case: RunCase) -> None:
-    futures: list[Future[Any]] = []
-
-    class Same(Answering):
-        def submit(self, function: Any, /, *given: Any, **named: Any) -> Any:
-            futures.append(super().submit(function, *given, **named))
-            return futures[0]
-
-    require_error(case, RunError, "pass 1, lines? .* tried 3 times|one future", Same())
-    require_verdicts(case)
-
-
-def test_an_executor_that_takes_or_answers_nothing(case: RunCase) -> None:
-    def cancel(*given: Any) -> Future[Any]:
-        future: Future[Any] = Future()
-        future.cancel()
-        return future
-
-    closed, sentence = RuntimeError("it was closed"), "it was cancelled; tried 3 times"
-    for submit, text in ((unittest.mock.Mock(side_effect=closed), "it was closed"), (cancel, sentence)):
-        require_error(case, RunError, text, unittest.mock.Mock(submit=submit))
-    require_verdicts(case)
+def test_an_executor_that_takes_nothing(case: RunCase) -> None:
+    submit = unittest.mock.Mock(side_effect=RuntimeError("it was closed"))
+    case.require_error(
+        RunError, "nothing can be submitted: RuntimeError: it was closed", unittest.mock.Mock(submit=submit)
+    )
+    case.require_verdicts()
 
 
 BAD_LINE = "^line (5|15|25): the checker answers bad: "
@@ -529,15 +444,15 @@ def test_a_verdict_that_the_checker_refuses(case: RunCase) -> None:
     executor = answer_with(b"_1RZ0LA undecided steps", b"_1RZ0LA cycler 5 9")
     for limits in ([SMALL], PASSES):
         case.out = case.top / str(len(limits))
-        require_error(case, CheckError, BAD_LINE + "1RB1LC_1RC1RB", executor, limits=limits, check=True)
-    require_verdicts(case, check=True)
+        case.require_error(CheckError, BAD_LINE + "1RB1LC_1RC1RB", executor, limits=limits, check=True)
+    case.require_verdicts(check=True)
 
 
 def test_a_lying_worker_is_found_here(case: RunCase) -> None:
     """It says that its wrong verdict is right, and of all others that they are undecided."""
 
-    def lie(reply: chunks.ChunkReply, before: int) -> chunks.ChunkReply:
-        if reply[6].startswith(chunks.CHECK):
+    def lie(reply: replies.Reply, before: int) -> replies.Reply:
+        if reply[6].startswith("check "):
             return reseal(reply, b"ok\n" * reply[0].count(b"\n"))
         return reseal(reply, reply[0].replace(b"_1RZ0LA undecided steps", b"_1RZ0LA cycler 5 9"))
 
@@ -547,32 +462,32 @@ def test_a_lying_worker_is_found_here(case: RunCase) -> None:
         case.out = case.top / str(is_begun)
         if is_begun:
             case.run_over(Answering(lie), limits=[SMALL])
-        require_error(case, CheckError, BAD_LINE, Answering(lie), limits=[SMALL], check=True, here=True)
+        case.require_error(CheckError, BAD_LINE, Answering(lie), limits=[SMALL], check=True, here=True)
     case.out = case.top / "command"
-    backend = PoolBackend(Answering(lie), 2)
+    backend = PoolBackend(Answering(lie))
     with unittest.mock.patch("budlarem.commands.run.make_backend", return_value=backend):
         status, said = case.call("--pass", "steps=30,cells=16,depth=3,nodes=5", "--check-here")
     assert status == 1
     assert re.search(BAD_LINE.replace("^", "^budlarem: ") + "1RB1LC_1RC1RB", said, re.M)
-    require_verdicts(case, Answering(), limits=[SMALL], check=True, here=True)
+    case.require_verdicts(Answering(), limits=[SMALL], check=True, here=True)
 
 
 def test_answers_to_other_verdicts(case: RunCase) -> None:
-    replies: list[chunks.ChunkReply] = []
+    before: list[replies.Reply] = []
 
-    def swap(reply: chunks.ChunkReply, before: int) -> chunks.ChunkReply:
-        replies.append(reply)
-        is_check = reply[6].startswith(chunks.CHECK)
-        return next(one for one in replies if one[6] == reply[6]) if is_check else reply
+    def swap(reply: replies.Reply, count: int) -> replies.Reply:
+        before.append(reply)
+        is_check = reply[6].startswith("check ")
+        return next(one for one in before if one[6] == reply[6]) if is_check else reply
 
-    require_error(case, RunError, "answers other lines; tried 3 times", Answering(swap), check=True)
-    require_verdicts(case, check=True)
+    case.require_error(RunError, "answers other lines; tried 3 times", Answering(swap), check=True)
+    case.require_verdicts(check=True)
 
 
 def test_seconds_that_did_not_pass(case: RunCase) -> None:
     for seconds in (1e9, 1e308):
         case.out = case.top / str(seconds)
-        require_verdicts(case, Answering(lambda reply, before: (reply[0], seconds, *reply[2:])), most=1_000)
+        case.require_verdicts(Answering(lambda reply, before: (reply[0], seconds, *reply[2:])), most=1_000)
         assert len(case.records()) < 20
         summary = json.loads((case.out / "summary.json").read_text())
         assert summary["passes"][0]["work_seconds"] < 600

@@ -14,22 +14,18 @@ from budlarem import parse_recurrence
 from budlarem._text import escape_controls
 from hypothesis import strategies as st
 from support.machines import join_groups
+from support.recurrences import GREATEST_REPLY
 
 CHAMPION = "1RB1LB_1LA1RZ"
-HALTS = ["halt 6 4", "halt 18446744073709551615 0"]
 OTHERS = ["translated R 1 2 1 1", "translated L 1 2", "undecided steps", "undecided cells", "backward 2 4"]
-LINES = [CHAMPION + " " + words for words in HALTS] + ["1RA1RA " + words for words in OTHERS]
-LINES += ["0RB---_0LA--- cycler 2 4", "refused 1", "refused 775"]
-NO_HALTS = ["halt", "halt 6", "halt 6 4 ", " halt 6 4", "halt 06 4", "halt +6 4", "halt 6 -4", "halt 6 4\n"]
-NO_HALTS += ["halt 18446744073709551616 0", "halt \u0666 4", "loops 6 4"]
-NO_PAIRS = ["translated U 1 2", "translated R 1 2 1", "translated R 1 2 1 1 1"]
-NO_PAIRS += ["undecided", "undecided nodes"]
-UNREAD = [CHAMPION + " " + words for words in NO_HALTS] + ["1RA1RA " + words for words in NO_PAIRS]
-UNREAD += ["", CHAMPION, "1RB1LC_1LA1RZ halt 6 4", "1RB1LB halt 6 4"]
+LINES = [CHAMPION + " halt 6 4", "0RB---_0LA--- cycler 2 4", *("1RA1RA " + words for words in OTHERS)]
+LINES += [CHAMPION + " halt 18446744073709551615 0", "refused 1", "refused 775"]
+# Changed verdicts are in test_package.
+UNREAD = ["", CHAMPION, "1RB1LC_1LA1RZ halt 6 4", CHAMPION + " halt 6 4\n", "1RA1RA undecided nodes"]
 UNREAD += ["refused", "refused 0", "refused 01", "refused 776", "refused 1 1"]
 PAIR, REPLY = "0RB---_0LA--- cycler 4 16", "0RB---_0LA--- recurs 0 2 0 * *"
 REPLIES = [REPLY, "1RB---_1LB0RB recurs 4 1 -1 0 * quasihalts 1"]
-REPLIES += [REPLIES[1] + " entries 0 - * 3", REPLY + " entries * - * -"]
+REPLIES += [REPLIES[1] + " entries 0 - * 3", REPLY + " entries * - * -", GREATEST_REPLY]
 CHANGES = [(" -1", " -0"), (" -1", " +1"), (" 4", " 04"), (" 1 -", " 0 -"), ("ts 1", "ts 2"), (" 0 ", " 00 ")]
 NO_REPLIES = ["", "ok", "Bad", REPLY + " ", REPLY[:-2], REPLY + " *", REPLY + " quasihalts 1"]
 NO_REPLIES += [REPLIES[1].replace(*pair) for pair in [*CHANGES, (" quasihalts 1", ""), ("1RB", "1RC")]]
@@ -113,13 +109,10 @@ def test_only_texts_are_read(wrong: Any) -> None:
 
 
 def test_parts_have_names() -> None:
-    moved = parse("1RA1RA translated R 1 2 3 4")
-    assert isinstance(moved, budlarem.Translated) and moved.extent
-    assert (moved.machine, moved.side, moved.first, moved.second) == ("1RA1RA", "R", 1, 2)
-    assert (moved.extent.shift, moved.extent.length) == (3, 4)
-    without = parse("1RA1RA translated R 1 2")
-    assert isinstance(without, budlarem.Translated)
-    assert without.extent is None
+    extent = budlarem.Extent(shift=3, length=4)
+    moved = budlarem.Translated(machine="1RA1RA", side="R", first=1, second=2, extent=extent)
+    assert parse("1RA1RA translated R 1 2 3 4") == moved
+    assert parse("1RA1RA translated R 1 2") == budlarem.Translated("1RA1RA", "R", 1, 2, None)
 
 
 def test_machines_are_of_1_to_25_states_and_2_to_10_symbols() -> None:

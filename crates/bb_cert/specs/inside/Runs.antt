@@ -8,7 +8,7 @@ use Rattle.bb_sim.specs.declared.runner.Runner.{Runner}
 use Rattle.bb_sim.specs.Meter.{CountsRun, zero_meter}
 use Rattle.bb_sim.specs.Runner.{Stands, steps_of}
 use Rattle.bb_registers.specs.declared.run.RegisterRun.{RegisterRun}
-use Rattle.bb_registers.specs.Packed.{IsTableOf}
+use Rattle.bb_machine.specs.Packed.{IsTableOf}
 use Rattle.bb_registers.specs.Registers.{IsRegisterRun}
 use Rattle.bb_cert.specs.declared.checker.answer.Answer.{Answer}
 use Rattle.bb_cert.specs.declared.checker.run.RunWithTable.{RunWithTable}

@@ -17,8 +17,8 @@ ghost use Rattle.bb_cert.specs.inside.Runs.{saved_steps};
 
 use crate::checker::answer::Answer;
 use crate::checker::checking::Pair;
-use bb_machine::{Limits, Machine};
-use bb_registers::{RegisterMove, RegisterRun, RegisterTable, fits_registers};
+use bb_machine::{Limits, Machine, PackedTable};
+use bb_registers::{RegisterMove, RegisterRun};
 use bb_sim::{Meter, Moved, Outcome, Runner, is_same};
 use bb_tape::{Memory, Tape};
 
@@ -84,7 +84,7 @@ pub(crate) trait Steps: Copy {
 #[derive(Clone, Copy)]
 pub(crate) struct RunWithTable {
     pub(crate) run: RegisterRun,
-    pub(crate) table: RegisterTable,
+    pub(crate) table: PackedTable,
 }
 
 impl Steps for RunWithTable {
@@ -218,8 +218,8 @@ impl Run {
     {
         limits.show_accepted();
         if !T::GROWS {
-            if fits_registers(machine) {
-                let table = RegisterTable::new(machine);
+            if machine.is_small() {
+                let table = machine.packed();
                 let run = RegisterRun::start(machine, limits);
                 let active = RunWithTable { run, table };
                 return Run::InRegisters { active, saved: run };

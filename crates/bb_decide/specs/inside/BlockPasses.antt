@@ -9,8 +9,8 @@ use Rattle.bb_tape.specs.TapeView.{TapeView}
 use Rattle.bb_sim.specs.Runner.{position_of, state_of}
 use Rattle.bb_registers.specs.Blocks.{IsBlockRun}
 use Rattle.bb_registers.specs.declared.blocks.Barrier.{Barrier}
-use Rattle.bb_registers.specs.declared.table.RegisterTable.{RegisterTable}
-use Rattle.bb_registers.specs.Packed.{IsTableOf}
+use Rattle.bb_machine.specs.declared.packed.PackedTable.{PackedTable}
+use Rattle.bb_machine.specs.Packed.{IsTableOf}
 use Rattle.bb_cert.specs.records.Follow.{passed}
 use Rattle.bb_decide.specs.Fingerprint.{fingerprint}
 use Rattle.bb_decide.specs.inside.Searching.{IsInRecordSearch, IsInSinglePass, IsUnderWay}
@@ -19,7 +19,7 @@ use Rattle.bb_decide.specs.declared.single_pass.SinglePass.{SinglePass}
 use Rattle.bb_decide.specs.declared.sprint.Sprint.{Sprint}
 
 -- a machine's table in two numbers, for a tape that doesn't grow
-pub record IsBlockTable (grows : Bool) (table : Table) (packed : RegisterTable) : Type 0 where
+pub record IsBlockTable (grows : Bool) (table : Table) (packed : PackedTable) : Type 0 where
   pub fixed : grows ≡ false
   pub symbols : symbols_of table ≡ 2
   pub states : length table ≤ 7

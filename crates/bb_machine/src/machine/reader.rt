@@ -6,6 +6,7 @@ ghost use Rattle.std.specs.Int.{bit_at};
 
 use crate::entry::Entry;
 use crate::machine::{LINE, MAX_STATES, MAX_SYMBOLS, Machine, Refused, SLOTS, STRIDE, Slot};
+use crate::packed::{PackedTable, is_small_table};
 use std::simd::prelude::*;
 
 /// The progress in a text: `states` counts the groups with the current one, `filled` the entries of the
@@ -114,9 +115,13 @@ impl Machine {
                 column: longest_prefix(line) as u32 + 1,
             });
         };
-        fill(&mut self.slots, line, states, symbols);
         self.state_count = states as u8;
         self.symbol_count = symbols as u8;
+        if is_small_table(states as u8, symbols as u8) {
+            self.packed = PackedTable::read(line, states);
+            return Ok(());
+        }
+        fill(&mut self.slots, line, states, symbols);
         Ok(())
     }
 

@@ -98,7 +98,8 @@ def main(arguments: list[str] | None = None) -> int:
         text, status = "%s%s" % ("standard output: " if is_output else "", error), 3
     except (ReportError, RunError) as error:
         text, status = str(error), 3
-    print("budlarem: %s" % escape_message(text), file=sys.stderr)
+    with contextlib.suppress(OSError):
+        print("budlarem: %s" % escape_message(text), file=sys.stderr)
     return status
 
 

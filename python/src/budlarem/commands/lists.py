@@ -15,7 +15,7 @@ from typing import BinaryIO, Iterator, Mapping
 
 from .._text import escape_hidden, escape_message
 from ..claim_lists import ListForm, RereadableList
-from ..claims import WORDS, Claims, read_words
+from ..claims import Claims
 from ..comparison import Agreement, compare
 from ..engine import Call, answer_file, check_call, recurrence_call
 from ..judging import Judgement, Judging, judge, translation_in
@@ -121,35 +121,28 @@ undecided machines.
 %s"""
 
 
-class ClaimReader(ListReader):
-    """Reads a list of claims. Prints the translation of a table's words too."""
-
-    def __init__(self, path: str | None, asked: argparse.Namespace) -> None:
-        super().__init__(path, asked)
-        self.words = WORDS if asked.words is None else read_words(asked.words)
-        self._word_file: str | None = asked.words
-
-    def verdicts(self) -> Iterator[Verdict]:
-        """The verdict of each line that has one. Raises OSError, ValueError."""
-        source = RereadableList(self.source, self.form, self.columns)
-        self.print_form(source.form)
-        _require_verdicts(self.name, source.form)
-        try:
-            translation = translation_in(source, self.words, lambda what, lines: None)
-        except ValueError as error:
-            raise ValueError("%s: %s" % (self.name, error)) from None
-        self.print_words(source.form, translation, self._word_file)
-        claims = Claims(source, self.words, is_last=True)
-        for claim in claims:
-            if claim.verdict is not None:
-                self.print_rewritten(claim.reading)
-                yield claim.verdict
-            elif claim.reading.machine is None:
-                self.refuse(claim.reading.number, str(claim.reading))
-            else:
-                why = claim.trouble or "no verdict of %s" % claim.reading.machine
-                self.refuse(claim.reading.number, "refused: %s" % why)
-        self.print_skips(claims.skips, claims.non_utf8_lines)
+def read_verdicts(reader: ListReader) -> Iterator[Verdict]:
+    """The verdict of each line of a list of claims that has one. Prints the translation of a table's words too.
+    Raises OSError, ValueError."""
+    source = RereadableList(reader.source, reader.form, reader.columns)
+    reader.print_form(source.form)
+    _require_verdicts(reader.name, source.form)
+    try:
+        translation = translation_in(source, reader.words, lambda what, lines: None)
+    except ValueError as error:
+        raise ValueError("%s: %s" % (reader.name, error)) from None
+    reader.print_words(source.form, translation)
+    claims = Claims(source, reader.words, is_last=True)
+    for claim in claims:
+        if claim.verdict is not None:
+            reader.print_rewritten(claim.reading)
+            yield claim.verdict
+        elif claim.reading.machine is None:
+            reader.refuse(claim.reading.number, str(claim.reading))
+        else:
+            why = claim.trouble or "no verdict of %s" % claim.reading.machine
+            reader.refuse(claim.reading.number, "refused: %s" % why)
+    reader.print_skips(claims.skips, claims.non_utf8_lines)
 
 
 def _require_verdicts(name: str, form: ListForm) -> None:
@@ -164,8 +157,9 @@ def do_compare(asked: argparse.Namespace) -> int:
     if asked.first == "-" == asked.second:
         raise ValueError("A and B can't both be standard input")
     counts: collections.Counter[Agreement] = collections.Counter()
-    first, second = ClaimReader(asked.first, asked), ClaimReader(asked.second, asked)
-    for found in compare(first.verdicts(), second.verdicts(), undefined_steps=asked.undefined_steps):
+    first, second = ListReader(asked.first, asked), ListReader(asked.second, asked)
+    lists = (read_verdicts(reader) for reader in (first, second))
+    for found in compare(*lists, undefined_steps=asked.undefined_steps):
         counts[found.agreement] += 1
         if found.agreement is not Agreement.AGREE:
             sys.stdout.write("%s\n" % found)
@@ -184,11 +178,11 @@ def require_other_file(out: str, given: str | BinaryIO) -> None:
 
 
 def do_report(asked: argparse.Namespace) -> int:
-    reader = ClaimReader(asked.file, asked)
+    reader = ListReader(asked.file, asked)
     require_other_file(asked.out, reader.source)
     numbers = {name: getattr(asked, name) for name in ("diagrams", "steps", "cells", "threads")}
     title = asked.title or escape_hidden(os.path.basename(asked.file or "Verdicts"))
-    report(reader.verdicts(), asked.out, title=title, **numbers)
+    report(read_verdicts(reader), asked.out, title=title, **numbers)
     return reader.status
 
 
@@ -277,11 +271,11 @@ def do_judge(asked: argparse.Namespace) -> int:
         progress=lambda what, lines: progress.show(lambda: "%s lines %s" % (short_count(lines), what)),
         form=reader.form,
         columns=reader.columns,
-        words=None if asked.words is None else read_words(asked.words),
+        words=reader.words,
     )
     theirs = judging.theirs
     reader.print_form(theirs.form)
-    reader.print_words(theirs.form, theirs.translation, asked.words)
+    reader.print_words(theirs.form, theirs.translation)
     counts: collections.Counter[Judgement] = collections.Counter()
     numbers: collections.Counter[Exactness | None] = collections.Counter()
     for judged in judging:

@@ -15,13 +15,14 @@ from .._text import escape_hidden
 from ..limits import Limits, limits_of
 from ..numbers import option_number
 from ..runner.backends import HERE, SENT, Backend, ThreadBackend
-from ..runner.chunks import identity, parse_retention
-from ..runner.errors import CheckError, FolderError, ListError, MovedError, RunError, UsageError
+from ..runner.chunks import parse_retention
+from ..runner.errors import CheckError, FolderError, MovedError, RunError, UsageError
 from ..runner.errors import describe_error
-from ..runner.folder import VERDICTS, Folder, require_separate_list
+from ..runner.folder import CHECK, CHECK_HERE, VERDICTS, Folder, require_separate_list
 from ..runner.input import ListFile, require_form
 from ..runner.passes import RunOptions, run
 from ..runner.progress import Progress
+from ..runner.replies import identity
 from .shared import Subcommands, add_number, add_passes, end_at_signals
 
 _HELP = """Decides a list of any length in chunks, on all cores of this computer or by a dask cluster. FOLDER
@@ -59,50 +60,41 @@ def add_command(commands: Subcommands) -> None:
     parser.add_argument("--piece", dest="chunk", type=option_number, help=argparse.SUPPRESS)
 
 
-def install_signal_handlers(progress: Progress, folder: str) -> None:
-    """Has SIGINT, SIGTERM and SIGHUP end the process at once, with a message; its chunks are stored."""
-    place = escape_hidden(folder)
-    end_at_signals(lambda what: f"{progress.erase_sequence()}budlarem: {what}{_RESUME} in {place}\n")
-
-
 def add_places(parser: argparse.ArgumentParser, work: str) -> None:
     """Adds the options for places to work."""
     add_number(parser, "--threads", "cores used (default: all)")
     parser.add_argument("--scheduler", metavar="ADDRESS", help="of dask, whose workers %s" % work)
-    for name, (_, what) in TLS.items():
-        parser.add_argument("--" + name, metavar="FILE", help="dask's option: %s" % what)
+    for name, (argument, what) in TLS.items():
+        parser.add_argument("--" + name, dest=argument, metavar="FILE", help="dask's option: %s" % what)
 
 
-def _tls_files(asked: argparse.Namespace) -> dict[str, str]:
-    """The files of the options of TLS, by the argument of dask's client."""
-    named = ((name, getattr(asked, name.replace("-", "_"))) for name in TLS)
-    return {TLS[name][0]: path for name, path in named if path is not None}
-
-
-def require_places(asked: argparse.Namespace) -> None:
-    """Raises UsageError for options of places that contradict each other, or a file that can't be read."""
+def require_places(asked: argparse.Namespace) -> dict[str, str]:
+    """The files of TLS, by the argument of dask's client. Raises UsageError for options of places that contradict each
+    other, or a file that can't be read."""
     if asked.scheduler is not None and asked.threads is not None:
         raise UsageError("--threads is for this computer, --scheduler for others; give one of them")
     if asked.threads is not None and asked.threads < 1:
         raise UsageError("--threads is %d, but must be 1 or more" % asked.threads)
-    if asked.scheduler is None and _tls_files(asked):
+    paths = {name: getattr(asked, argument) for name, (argument, _) in TLS.items()}
+    files = {name: path for name, path in paths.items() if path is not None}
+    if asked.scheduler is None and files:
         raise UsageError("--tls-ca-file, --tls-cert and --tls-key are for --scheduler, which isn't given")
-    for name in TLS:
+    for name, path in files.items():
         try:
-            if (path := getattr(asked, name.replace("-", "_"))) is not None:
-                open(path, "rb").close()
+            open(path, "rb").close()
         except OSError as error:
             raise UsageError("--%s %s can't be read: %s" % (name, path, error.strerror)) from None
+    return {TLS[name][0]: path for name, path in files.items()}
 
 
 def make_backend(asked: argparse.Namespace, report: Callable[[str], None]) -> Backend:
     """The backend that the options name. Raises UsageError, RunError."""
-    require_places(asked)
+    files = require_places(asked)
     if asked.scheduler is not None:
         # Its imports take a while.
         from ..runner.dask import DaskBackend
 
-        return DaskBackend(asked.scheduler, _tls_files(asked), report)
+        return DaskBackend(asked.scheduler, files, report)
     return ThreadBackend(asked.threads or len(os.sched_getaffinity(0)))
 
 
@@ -130,46 +122,43 @@ def do_run(asked: argparse.Namespace) -> int:
     passes = [limits_of(word) for word in asked.passes] if asked.passes else [Limits()]
     if asked.chunk is not None and asked.chunk < 1:
         raise UsageError("--chunk is %d, but must be 1 or more" % asked.chunk)
-    install_signal_handlers(progress, asked.out)
+    resumes = "%s in %s\n" % (_RESUME, escape_hidden(asked.out))
+    end_at_signals(lambda what: "%sbudlarem: %s%s" % (progress.erase_sequence(), what, resumes))
+    backend = make_backend(asked, progress.print_line)
     try:
-        return _decide_list(asked, passes, progress)
-    except (FolderError, UsageError) as error:
-        text, status = str(error), 2
-    except CheckError as error:
-        text, status = str(error), 1
-    except (ListError, MovedError) as error:
-        text, status = str(error), 3
+        source = ListFile(asked.list)
+    except OSError as error:
+        raise RunError("the list %s can't be read: %s" % (asked.list, error.strerror or error)) from None
+    try:
+        return _decide_list(asked, source, passes, backend, progress)
+    except (FolderError, UsageError, CheckError, MovedError):
+        raise
     except RunError as error:
-        text, status = str(error) + _RESUME, 3
+        raise RunError(str(error) + _RESUME) from error
     except Exception as error:
         # Every other error is a fault, never a status of the list.
         text = str(error) if isinstance(error, OSError) else describe_error(error)
-        text, status = text + _RESUME + " once the cause is removed", 3
-    progress.print_line(text)
-    return status
+        raise RunError(text + _RESUME + " once the cause is removed") from error
+    finally:
+        progress.clear()
+        source.close()
 
 
-def _decide_list(asked: argparse.Namespace, passes: list[Limits], progress: Progress) -> int:
+def _decide_list(
+    asked: argparse.Namespace, source: ListFile, passes: list[Limits], backend: Backend, progress: Progress
+) -> int:
     """Decides a list; returns 0 or 1. Raises all other errors."""
-    backend = make_backend(asked, progress.print_line)
-    with contextlib.ExitStack() as stack:
-        try:
-            source = stack.enter_context(contextlib.closing(ListFile(asked.list)))
-        except OSError as error:
-            text = "the list %s can't be read: %s" % (asked.list, error.strerror or error)
-            raise ListError(text) from None
-        list_id = source.id if source.is_regular else None
-        require_separate_list(asked.out, list_id)
-        require_form(source)
-        folder = stack.enter_context(contextlib.closing(Folder(asked.out, list_id)))
+    list_id = source.id if source.is_regular else None
+    require_separate_list(asked.out, list_id)
+    require_form(source)
+    with contextlib.closing(Folder(asked.out, list_id)) as folder:
         options = RunOptions(
             backend,
             identity(),
             progress,
             source.name,
             most_lines=asked.chunk,
-            is_checked=asked.check or asked.check_here,
-            is_checked_here=asked.check_here,
+            check=CHECK_HERE if asked.check_here else CHECK if asked.check else "",
             keep=parse_retention(asked.keep),
             require_list=source.require_unchanged,
         )

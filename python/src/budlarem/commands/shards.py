@@ -14,7 +14,7 @@ import re
 import sys
 
 from .._text import escape_hidden
-from ..limits import Limits
+from ..limits import Limits, in_range
 from ..runner.backends import Backend
 from ..runner.errors import FolderError, UsageError
 from ..runner.progress import TerminalLine
@@ -106,7 +106,7 @@ def _verify(
 
 def do_shard(asked: argparse.Namespace) -> int:
     with contextlib.closing(ShardFolder(asked.folder, _Progress().print_line)) as folder:
-        if (asked.machine, True) not in folder.machines():
+        if not folder.has_shard(asked.machine):
             sentence = "%s is no shard of %s; `budlarem shards %s --pending` prints the unfinished ones"
             raise FolderError(sentence % (asked.machine, asked.folder, asked.folder))
         sys.stdout.write(folder.do_shard(asked.machine))
@@ -130,14 +130,11 @@ def _plan_of(asked: argparse.Namespace) -> Plan | None:
         return None
     given.pop("recurrence", None)
     sizes = {name: given.pop(name, default) for name, (default, *_) in _SIZES.items()}
-    for name, number, (least, most) in (
-        ("states", asked.states, (1, 25)),
-        *((name, number, _SIZES[name][1:3]) for name, number in sizes.items()),
-    ):
+    in_range("--states", asked.states, 1, 25)
+    for name, number in sizes.items():
+        least, most = _SIZES[name][1:3]
         most = min(most, asked.states * sizes["symbols"]) if name == "entries" else most
-        if not least <= number <= most:
-            words = (name.replace("_", "-"), number, least, "{:,}".format(most))
-            raise UsageError("--%s is %d, but must be %d to %s" % words)
+        in_range("--" + name.replace("_", "-"), number, least, most)
     return Plan(asked.states, **sizes, limits=Limits(**given), recurrence=bool(asked.recurrence))
 
 

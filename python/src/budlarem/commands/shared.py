@@ -13,9 +13,8 @@ from types import FrameType
 from typing import TYPE_CHECKING, BinaryIO, Callable, Iterable, Iterator, Mapping, TypeVar
 
 from .._text import escape_hidden, escape_message, pluralize
-from ..claim_lists import ListForm
-from ..claim_tables import Columns
-from ..claims import Translation
+from ..claim_lists import Columns, ListForm
+from ..claims import WORDS, Translation, read_words
 from ..limits import GREATEST, Limits
 from ..numbers import option_number
 from ..reading import Form, Reading, Readings, Skipped
@@ -88,6 +87,8 @@ class ListReader:
         self.source = source_of(path)
         self.form = None if asked is None or asked.form is None else Form(asked.form)
         self.columns = Columns(**{role: getattr(asked, "column_" + role, None) for role in _ROLES})
+        self._word_file: str | None = getattr(asked, "words", None)
+        self.words = WORDS if self._word_file is None else read_words(self._word_file)
         self._progress = progress
         self.taken, self.rewritten, self.refused = 0, 0, 0
 
@@ -110,11 +111,11 @@ class ListReader:
             is_given = self.form is not None or self.columns != Columns()
             self.print_line(str(form) if is_given else "%s; --form overrides it" % form)
 
-    def print_words(self, form: ListForm, translation: Translation | None, given: str | None) -> None:
+    def print_words(self, form: ListForm, translation: Translation | None) -> None:
         """Prints the translation of a table's words, or that the file of `--words` isn't used in this form."""
         for line in translation.lines if translation is not None else ():
             self.print_line(line)
-        if given is not None and form.layout is None:
+        if self._word_file is not None and form.layout is None:
             self.print_line("--words is for tables; nothing is translated in the form %s" % form.form)
 
     def print_skips(self, skipped: Mapping[Skipped, int], non_utf8_lines: int) -> None:

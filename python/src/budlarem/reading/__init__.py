@@ -6,15 +6,10 @@ refused with a reason, and skipped lines are counted. `tests/support/forms.json`
 
 from __future__ import annotations
 
-from ..list_files import EncodingError, EndlessLineError, Source
-from .forms import Readings
-from .readings import Form, Reading, Reason, Rewriting, Skipped
-
-# fmt: off
-__all__ = [
-    "EncodingError", "EndlessLineError", "Form", "Reading", "Readings", "Reason", "Rewriting", "Skipped", "read",
-]
-# fmt: on
+from ..list_files import EncodingError as EncodingError, EndlessLineError as EndlessLineError, Source
+from .forms import Readings as Readings
+from .readings import Form as Form, Reading as Reading, Reason as Reason, Rewriting as Rewriting
+from .readings import Skipped as Skipped
 
 
 def read(lines: Source, form: Form | None = None) -> Readings:

@@ -58,11 +58,8 @@ def parse_groups(groups: Sequence[Group], *rewritten: Rewriting) -> Outcome:
     for number, group in enumerate(groups, 1):
         if not group[0].text:
             return Reason("empty-group", f"group {number} is empty", group[0].begin + 1)
-        cut = [
-            Word(word.begin + at, word.text[at : at + 3])
-            for word in group
-            for at in range(0, len(word.text), 3)
-        ]
+        places = ((word, at) for word in group for at in range(0, len(word.text), 3))
+        cut = [Word(word.begin + at, word.text[at : at + 3]) for word, at in places]
         if Rewriting.ENTRIES in rewritten and any(_HALT.fullmatch(entry.text) for entry in cut):
             kinds.add(Rewriting.HALTING_ENTRIES)
             cut = [Word(entry.begin, _HALT.sub(r"\1Z", entry.text)) for entry in cut]
@@ -83,9 +80,8 @@ def _no_entry(entry: Word, number: int, is_followed: bool) -> Reason:
     place, text = entry.begin + 1, entry.text
     whole = text + "_" if len(text) == 2 and is_followed else text
     if _LOST.fullmatch(whole):
-        return Reason(
-            "lost", f"entry {number} is {whole}: the {whole[0]} that it writes would be lost", place
-        )
+        what = f"entry {number} is {whole}: the {whole[0]} that it writes would be lost"
+        return Reason("lost", what, place)
     hidden = next((at for at, character in enumerate(text) if is_hidden(character)), None)
     if hidden is not None:
         code = code_point(text[hidden])

@@ -1,12 +1,12 @@
-"""Backends do tasks: in threads of this process, by any executor of `concurrent.futures`, or by dask."""
+"""Backends do work: in threads of this process, or elsewhere."""
 
 from __future__ import annotations
 
-from concurrent.futures import Executor, Future
+from concurrent.futures import Future
 from typing import Any, NamedTuple
 
 from .._calls import DaemonThreads
-from .chunks import Task
+from .replies import Output, Request, do_here, identity, open_reply
 
 
 class ChunkSize(NamedTuple):
@@ -21,17 +21,20 @@ HERE, SENT = ChunkSize(40_000, 1_000_000), ChunkSize(80_000, 2_000_000)
 
 
 class Backend:
-    """Does tasks. One that fails is submitted again, up to `tries` times. `is_here`: in this process, so that
-    replies need no digests."""
+    """Does the work of requests. One that fails is submitted again, up to `tries` times. `is_here`: in this process."""
 
     tries, is_here, chunk_size = 3, False, SENT
 
     def width(self) -> int:
-        """The most tasks in flight."""
+        """The most requests in flight."""
         raise NotImplementedError
 
-    def submit(self, task: Task, lines: bytes, options: Any) -> Future[Any]:
+    def submit(self, request: Request) -> Future[Any]:
         raise NotImplementedError
+
+    def open(self, request: Request, reply: object) -> Output:
+        """The output of a finished request. Raises ReplyError for an invalid reply."""
+        return open_reply(reply, request, identity())
 
     def maintain(self) -> None:
         """Called now and then for other work. Raises RunError."""
@@ -41,34 +44,27 @@ class Backend:
         return ""
 
     def close(self) -> None:
-        """Starts no more tasks."""
+        """Starts no more work."""
 
 
-class PoolBackend(Backend):
-    """Any executor, with so many workers. Each has a task, and as many tasks wait."""
-
-    def __init__(self, executor: Executor | DaemonThreads, workers: int) -> None:
-        self._executor, self._workers = executor, workers
-
-    def width(self) -> int:
-        return 2 * self._workers
-
-    def submit(self, task: Task, lines: bytes, options: Any) -> Future[Any]:
-        return self._executor.submit(task, lines, options)
-
-
-class ThreadBackend(PoolBackend):
-    """Threads of this process. The library's calls release Python's lock, and nothing runs in Python for a single
-    line. One task waits."""
+class ThreadBackend(Backend):
+    """Threads of this process, whose output needs no digests. The library's calls release Python's lock, and nothing
+    runs in Python for a single line. One request waits."""
 
     tries, is_here, chunk_size = 1, True, HERE
 
     def __init__(self, count: int) -> None:
-        self._threads = DaemonThreads(count)
-        super().__init__(self._threads, count)
+        self._threads, self._count = DaemonThreads(count), count
 
     def width(self) -> int:
-        return self._workers + 1
+        return self._count + 1
+
+    def submit(self, request: Request) -> Future[Any]:
+        return self._threads.submit(do_here, request)
+
+    def open(self, request: Request, reply: object) -> Output:
+        assert isinstance(reply, Output)
+        return reply
 
     def close(self) -> None:
         self._threads.close()

@@ -1,8 +1,8 @@
-"""Chunks decided by the workers of a dask cluster.
+"""Work done by the workers of a dask cluster.
 
-The workers need this package, and the same Python and dask as the runner; the scheduler needs nothing. Tasks
-that dask's executor loses are submitted again or their replies fetched: futures that were cancelled since the
-scheduler left, and futures that never finish since the connection broke or a reply can't be read.
+The workers need this package, and the same Python and dask as the runner; the scheduler needs nothing. Work that dask
+loses is submitted again: futures that were cancelled since the scheduler left, and futures that may never finish since
+the connection broke.
 """
 
 from __future__ import annotations
@@ -21,16 +21,15 @@ from concurrent.futures import CancelledError, Future
 from typing import Any, Callable, Mapping
 
 from .backends import Backend
-from .chunks import Task, quote_line
 from .errors import DeadWorkersError, RunError
+from .replies import Request, quote_line, reply_to
 
 # Seconds between two inquiries, and the timeout of one.
 _OFTEN, _PATIENCE = 1.0, 10.0
-# Seconds after which a reply that dask has, and its executor doesn't give, is fetched, and an unknown job is
-# submitted again.
-_SILENT = 5.0
-# Chunks in flight while no worker is known.
+# Requests in flight while no worker is known.
 _LEAST = 4
+# Errors of fetching a reply that isn't there any more.
+_LOST = (CancelledError, asyncio.CancelledError, TimeoutError, asyncio.TimeoutError, OSError)
 # Loggers whose messages are reported otherwise, or are of no use to the user.
 _LOGGERS = ("distributed", "distributed.client", "tornado", "tornado.application")
 # dask warns of tasks of more than a million bytes, such as verdict lines to check.
@@ -47,19 +46,12 @@ def import_distributed() -> Any:
 
 @dataclasses.dataclass(eq=False)
 class Job:
-    """A task. `turn` counts its submissions and losses. Of the last submission it has the connection and key, dask's
-    own future, without which dask may forget a reply that its executor can't read, and since when it isn't pending
-    there."""
+    """A request; of its last submission dask's own future, and the connection."""
 
-    task: Task
-    lines: bytes
-    options: Any
+    request: Request
     future: Future[Any] = dataclasses.field(default_factory=Future)
-    turn: int = 0
-    connection: Any = None
-    key: str = ""
     own: Any = None
-    since: float | None = None
+    connection: Any = None
 
 
 class DaskBackend(Backend):
@@ -74,14 +66,13 @@ class DaskBackend(Backend):
         warnings.filterwarnings("ignore", _LARGE, UserWarning)
         self._security = self._dask.Security(**security, require_encryption=True) if security else None
         # It guards the jobs, which dask's thread ends.
-        self._lock = threading.RLock()
+        self._lock = threading.Lock()
         # Jobs that dask has, and jobs to submit again.
         self._submitted: set[Job] = set()
         self._lost: collections.deque[Job] = collections.deque()
         self._workers, self._threads, self._next = 0, 0, 0.0
         self._missing = ""
         self._client: Any = None
-        self._executor: Any = None
         if (error := self._connect()) is not None:
             raise RunError("no scheduler answers at %s: %s" % (address, error))
         try:
@@ -98,7 +89,6 @@ class DaskBackend(Backend):
             )
         except Exception as error:
             return error
-        self._executor = self._client.get_executor(pure=False)
         return None
 
     def width(self) -> int:
@@ -107,8 +97,8 @@ class DaskBackend(Backend):
     def status(self) -> str:
         return "%d workers" % self._workers
 
-    def submit(self, task: Task, lines: bytes, options: Any) -> Future[Any]:
-        job = Job(task, lines, options)
+    def submit(self, request: Request) -> Future[Any]:
+        job = Job(request)
         self._submit(job)
         return job.future
 
@@ -117,52 +107,52 @@ class DaskBackend(Backend):
         return self._client.scheduler_comm if self._client.status == "running" else None
 
     def _submit(self, job: Job) -> None:
+        """Has dask do a job, or notes that it is lost."""
+        job.connection, key = self._connection(), "budlarem-" + uuid.uuid4().hex
         with self._lock:
-            job.turn, job.since = job.turn + 1, None
-            job.connection, job.key = self._connection(), "budlarem-" + uuid.uuid4().hex
             self._submitted.add(job)
         try:
             if job.connection is None:
                 raise RunError("there is no scheduler")
-            inner = self._executor.submit(job.task, job.lines, job.options, key=job.key)
-            job.own = self._dask.Future(job.key, self._client)
+            job.own = self._client.submit(reply_to, *job.request, key=key, pure=False)
+            job.own.add_done_callback(functools.partial(self._finish, job))
         except Exception:
             # A closed client raises a bare Exception.
-            self._requeue(job)
-            return
-        inner.add_done_callback(functools.partial(self._on_done, job, job.turn))
+            self._requeue(job, job.own)
 
-    def _requeue(self, job: Job) -> None:
-        """Has a job submitted again; later news of this turn are ignored."""
+    def _requeue(self, job: Job, own: Any) -> None:
+        """Has a job submitted again, unless that was done since it had dask's future `own`."""
         with self._lock:
-            job.turn, job.own = job.turn + 1, None
-            self._submitted.discard(job)
-            self._lost.append(job)
+            if job in self._submitted and job.own is own:
+                self._submitted.remove(job)
+                job.own = None
+                self._lost.append(job)
 
-    def _on_done(self, job: Job, turn: int, inner: Future[Any]) -> None:
-        """Handles a finished future of dask's executor, in dask's thread."""
+    def _finish(self, job: Job, own: Any) -> None:
+        """Fetches the reply of a finished job, in dask's thread for that; a lost one is submitted again."""
+        reply, error = None, None
         try:
-            error = inner.exception()
-        except CancelledError as cancelled:
-            error = cancelled
-        self._finish(job, turn, None if error else inner.result(), error)
-
-    def _finish(self, job: Job, turn: int, reply: object, error: BaseException | None) -> None:
-        """Ends a job, unless its turn is over."""
-        with self._lock:
-            if turn != job.turn:
-                return
-            if isinstance(error, (CancelledError, asyncio.CancelledError)):
-                self._requeue(job)
-                return
-            job.turn, job.own = job.turn + 1, None
-            self._submitted.discard(job)
-            if isinstance(error, self._dask.KilledWorker):
-                error = DeadWorkersError(quote_line(job.lines.rstrip(b"\n")))
-            if error is not None:
-                job.future.set_exception(error)
+            if own.status == "error":
+                error = own.exception(_PATIENCE)
             else:
-                job.future.set_result(reply)
+                reply = own.result(_PATIENCE)
+        except _LOST:
+            self._requeue(job, own)
+            return
+        except Exception as unreadable:
+            error = unreadable
+        with self._lock:
+            if job not in self._submitted or job.own is not own:
+                return
+            self._submitted.remove(job)
+            # dask forgets a reply without a future.
+            job.own = None
+        if isinstance(error, self._dask.KilledWorker):
+            error = DeadWorkersError(quote_line(job.request.lines.rstrip(b"\n")))
+        if error is not None:
+            job.future.set_exception(error)
+        else:
+            job.future.set_result(reply)
 
     def maintain(self) -> None:
         """Inquires now and then about scheduler and workers, and submits lost jobs again."""
@@ -176,10 +166,9 @@ class DaskBackend(Backend):
             # dask never ends jobs of another connection whose replies were in transit.
             connection = self._connection()
             with self._lock:
-                for job in list(self._submitted):
-                    if job.connection is not connection:
-                        self._requeue(job)
-            self._fetch_stuck()
+                jobs = [(job, job.own) for job in self._submitted if job.connection is not connection]
+            for job, own in jobs:
+                self._requeue(job, own)
             for _ in range(len(self._lost)):
                 self._submit(self._lost.popleft())
         elif self._client.status != "closed":
@@ -207,36 +196,3 @@ class DaskBackend(Backend):
         if text != self._missing:
             self._missing, self._workers = text, 0
             self._report(text)
-
-    def _fetch_stuck(self) -> None:
-        """Fetches replies that dask has and its executor doesn't give: it never ends a future whose reply it
-        can't read, nor those that came with it. Requeues jobs that dask has forgotten."""
-        now = time.monotonic()
-        with self._lock:
-            pending = [(job, job.turn) for job in self._submitted]
-        for job, turn in pending:
-            state = self._client.futures.get(job.key)
-            status = "lost" if state is None else state.status
-            if status == "pending":
-                job.since = None
-            elif job.since is None:
-                job.since = now
-            elif now - job.since > _SILENT:
-                if status in ("finished", "error"):
-                    self._fetch(job, turn)
-                    continue
-                with self._lock:
-                    if turn == job.turn:
-                        self._requeue(job)
-
-    def _fetch(self, job: Job, turn: int) -> None:
-        """Fetches the reply to a job; after a timeout it is tried again later."""
-        job.since = None
-        try:
-            reply = self._dask.Future(job.key, self._client).result(_PATIENCE)
-        except (TimeoutError, asyncio.TimeoutError, OSError):
-            return
-        except (Exception, asyncio.CancelledError) as error:
-            self._finish(job, turn, None, error)
-        else:
-            self._finish(job, turn, reply, None)

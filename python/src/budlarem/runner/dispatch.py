@@ -6,13 +6,13 @@ import collections
 import itertools
 import queue
 import time
-from concurrent.futures import CancelledError, Future, ThreadPoolExecutor, wait
-from typing import Any, Callable, Iterator, NamedTuple, Sequence
+from concurrent.futures import Future, ThreadPoolExecutor, wait
+from typing import Any, Callable, Iterator, Sequence
 
 from .backends import Backend
-from .chunks import Task
 from .errors import CheckError, DeadWorkersError, ReplyError, RunError, describe_error
 from .progress import TerminalLine
+from .replies import Output, Request
 
 # The threads for validating and storing replies, and the most tasks of theirs.
 _VALIDATORS, _MOST_VALIDATING = 4, 6
@@ -20,30 +20,21 @@ _VALIDATORS, _MOST_VALIDATING = 4, 6
 _PATIENCE = 1.0
 
 
-class Request(NamedTuple):
-    """The work for a worker: a function of lines and options."""
-
-    task: Task
-    lines: bytes
-    options: Any
-
-
 class Assignment:
     """A task of a run, from its request to the stored result."""
 
-    # The word for several of them.
-    plural = "tasks"
-    # The number of failures, and when it was submitted last, by the monotonic clock. A half of a task whose workers
-    # died is suspect.
+    # The number of failures; the last request, and when it was submitted, by the monotonic clock. A half of a task
+    # whose workers died is suspect.
     failures, submitted, is_suspect = 0, 0.0, False
+    sent: Request | None = None
 
     def request(self) -> Request | None:
-        """The next work for a worker; None if `accept` needs no reply."""
+        """The next work for a backend; None if `accept` needs no output."""
         raise NotImplementedError
 
-    def accept(self, reply: object) -> bool:
-        """Validates a reply, and stores the result. Returns True once it is stored, else `request` has more. Called
-        in a thread. Raises ReplyError, CheckError, FolderError, RunError, OSError."""
+    def accept(self, output: Output | None) -> bool:
+        """Validates the output of a request, and stores the result. Returns True once it is stored, else `request` has
+        more. Called in a thread. Raises ReplyError, CheckError, FolderError, RunError, OSError."""
         raise NotImplementedError
 
     def halves(self) -> Sequence[Assignment]:
@@ -56,15 +47,17 @@ class Assignment:
 
 
 class Dispatcher:
-    """Tasks by a backend. `sync` is called often; `finish` with each finished task."""
+    """Tasks by a backend. `sync` is called often; `finish` with each finished task; `plural` is the word for several."""
 
     def __init__(
         self,
         backend: Backend,
         progress: TerminalLine,
-        sync: Callable[[], None],
-        finish: Callable[[Any], None],
+        plural: str,
+        finish: Callable[[Any], None] = lambda task: None,
+        sync: Callable[[], None] = lambda: None,
     ) -> None:
+        self._plural = plural
         self._backend, self._progress, self._sync, self._finish = backend, progress, sync, finish
         self._pending: dict[Future[Any], Assignment] = {}
         self._validating: dict[Future[bool], Assignment] = {}
@@ -81,7 +74,7 @@ class Dispatcher:
     def run(self, tasks: Iterator[Assignment]) -> None:
         """Does all tasks. Raises their errors, and RunError for failures."""
         try:
-            plural = self._run(tasks)
+            self._run(tasks)
         finally:
             self._validators.shutdown()
             # Of a slow list it ends with the process.
@@ -89,11 +82,10 @@ class Dispatcher:
             self._reader.shutdown(wait=False)
         if self._skipped:
             reasons = "; ".join(self._skipped[:3])
-            raise RunError("all but %d %s are stored; %s" % (len(self._skipped), plural, reasons))
+            raise RunError("all but %d %s are stored; %s" % (len(self._skipped), self._plural, reasons))
 
-    def _run(self, tasks: Iterator[Assignment]) -> str:
-        """Does all tasks; returns the word for several."""
-        is_ended, plural = False, ""
+    def _run(self, tasks: Iterator[Assignment]) -> None:
+        is_ended = False
         while self._pending or self._validating or self._suspects or not is_ended:
             under_way = itertools.chain(self._pending.values(), self._validating.values())
             if self._suspects and not any(task.is_suspect for task in under_way):
@@ -107,24 +99,20 @@ class Dispatcher:
                 task, self._read = self._read.result(), None
                 is_ended = task is None
                 if task is not None:
-                    plural = task.plural
                     self._submit(task)
-        return plural
 
     def _submit(self, task: Assignment) -> None:
         """Submits what a task needs next."""
-        if (request := task.request()) is None:
+        task.sent, task.submitted = task.request(), time.monotonic()
+        if task.sent is None:
             self._validate(task, None)
             return
-        task.submitted = time.monotonic()
         try:
-            future = self._backend.submit(*request)
+            future = self._backend.submit(task.sent)
         except RunError:
             raise
         except Exception as error:
             raise RunError("nothing can be submitted: %s" % describe_error(error)) from error
-        if future in self._pending:
-            raise RunError("the executor returned one future for two chunks")
         self._pending[future] = task
         future.add_done_callback(self._done.put)
 
@@ -149,10 +137,7 @@ class Dispatcher:
             seconds = 0.0
 
     def _handle_reply(self, task: Assignment, future: Future[Any]) -> None:
-        try:
-            error = future.exception()
-        except CancelledError:
-            error = ReplyError("it was cancelled")
+        error = future.exception()
         if isinstance(error, DeadWorkersError):
             self._bisect(task, error)
         elif error is not None:
@@ -174,10 +159,13 @@ class Dispatcher:
         )
 
     def _validate(self, task: Assignment, reply: object) -> None:
-        """Has a thread validate a reply; None without one."""
-        future = self._validators.submit(task.accept, reply)
+        """Has a thread open a reply, if there is one, and validate its output."""
+        future = self._validators.submit(self._accept, task, reply)
         self._validating[future] = task
         future.add_done_callback(self._done.put)
+
+    def _accept(self, task: Assignment, reply: object) -> bool:
+        return task.accept(None if task.sent is None else self._backend.open(task.sent, reply))
 
     def _handle_validation(self, task: Assignment, future: Future[bool]) -> None:
         """Submits a task again if it isn't done. Raises the error of the validation."""

@@ -13,10 +13,6 @@ class UsageError(ValueError):
     """The options contradict each other. Status 2."""
 
 
-class ListError(Exception):
-    """The list can't be opened; nothing was started. Status 3."""
-
-
 class RunError(Exception):
     """A fault. Finished chunks are kept, and the same command resumes the run. Status 3."""
 

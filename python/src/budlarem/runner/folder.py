@@ -13,14 +13,15 @@ import stat
 import string
 from typing import Any, Iterable, Iterator, Mapping, Sequence
 
-from .._files import Checksum, Directory, FileId, FileTarget, KindError, id_of, kind_of, write_blocks
+from .._files import Checksum, Directory, FileId, FileTarget, KindError, id_of, kind_of
 from .._text import escape_hidden
 from ..limits import Limits, limits_of, words_of
-from .chunks import Counts, Identity, Retention, parse_retention
+from .chunks import Counts, Retention, parse_retention
 from .errors import FolderError, RunError
 from .input import STANDARD_INPUT
 from .pass_folder import CHUNK, PASS_PREFIX, PassFolder, PassResult, merge_passes, pass_name
-from .store import SealError, begins_sealed, hash_of, lock_folder, part_of, read_sealed, seal
+from .replies import Identity
+from .store import SealError, begins_sealed, hash_of, locked_folder, part_of, read_sealed, seal
 
 LOCK, RUN, README, VERDICTS, SUMMARY = "lock", "run.json", "README.txt", "verdicts.txt", "summary.json"
 FILES = (RUN, README, VERDICTS, SUMMARY)
@@ -165,7 +166,8 @@ def as_argument(path: str) -> str:
 
 
 # The options of `budlarem run` that have verdicts checked, the stronger ones behind.
-CHECKS = ("", "--check", "--check-here")
+CHECK, CHECK_HERE = "--check", "--check-here"
+CHECKS = ("", CHECK, CHECK_HERE)
 
 
 @dataclasses.dataclass
@@ -264,25 +266,19 @@ class Folder:
         if os.path.exists(path) and not os.path.isdir(path):
             raise FolderError("%s is a file; give a folder, which need not exist yet" % path)
         os.makedirs(path, exist_ok=True)
-        self._top = Directory.open(path)
-        self._locked: int | None = None
-        self._targets: dict[str, FileTarget] = {}
-        try:
-            self._lock()
+        with contextlib.ExitStack() as stack:
+            self._top = stack.enter_context(contextlib.closing(Directory.open(path)))
+            try:
+                self._locked = stack.enter_context(locked_folder(self._top, LOCK, waits=False))
+            except BlockingIOError:
+                raise FolderError("another run works in %s; wait for its end, or end it" % path) from None
             require_other_list(self._top, list_id)
             config = self.read_config()
             require_own(self._top, None if config is None else len(config.passes))
-            self._targets = {name: FileTarget(self._top, name) for name in FILES}
-        except BaseException:
-            self.close()
-            raise
-
-    def _lock(self) -> None:
-        """Locks the directory, or a file in it where the file system locks none. Raises FolderError."""
-        try:
-            self._locked = lock_folder(self._top, LOCK, waits=False)
-        except BlockingIOError:
-            raise FolderError("another run works in %s; wait for its end, or end it" % self.path) from None
+            self._targets: dict[str, FileTarget] = {}
+            for name in FILES:
+                self._targets[name] = stack.enter_context(contextlib.closing(FileTarget(self._top, name)))
+            self.close = stack.pop_all().close
 
     def require_name(self) -> None:
         """Raises MovedError if its path leads elsewhere, RunError if its lock is lost."""
@@ -303,37 +299,26 @@ class Folder:
     def write(self, name: str, text: str) -> None:
         remove_leftovers(self._top, FILES)
         data = text.encode("utf-8", "surrogateescape")
-        self._targets[name].write(lambda number: write_blocks(number, [data]))
+        self._targets[name].write([data])
 
     def write_verdicts(self, passes: Sequence[PassFolder]) -> Checksum:
         """Writes the verdicts of all passes, and returns their checksum. Raises RunError, OSError."""
-        path = self._top.at(VERDICTS)
-        if len(passes) == 1:
-            self._targets[VERDICTS].write(lambda number: passes[0].copy_all(number, path))
-            return passes[0].checksum()
         total = Checksum()
 
-        def fill(number: int) -> None:
+        def blocks() -> Iterator[bytes]:
             nonlocal total
             for block in merge_passes(passes):
-                write_blocks(number, [block])
-                total = total.add_bytes(block)
+                total = total.add_bytes(block) if len(passes) > 1 else total
+                yield block
 
-        self._targets[VERDICTS].write(fill)
-        return total
+        self._targets[VERDICTS].write(blocks())
+        return total if len(passes) > 1 else passes[0].checksum()
 
     def open_pass(self, config: RunConfig, number: int) -> PassFolder:
         found = PassFolder(self._top, number, config.origin(number))
         self._top.sync()
         found.store.remove_leftovers()
         return found
-
-    def close(self) -> None:
-        for target in self._targets.values():
-            target.close()
-        if self._locked is not None:
-            os.close(self._locked)
-        self._top.close()
 
 
 class FinishedRun:

@@ -11,7 +11,7 @@ import re
 from typing import Any, Iterator, Mapping, Sequence
 
 from .._calls import BatchPace, map_in_order
-from .._files import Checksum, Directory, name_errors, write_at
+from .._files import Checksum, Directory
 from .._library import validate_replies
 from ..counts import KINDS, UNDECIDED, undecided_spans
 from ..limits import Limits
@@ -46,7 +46,7 @@ class Record:
     given: str
     milliseconds: int
     is_checked: bool
-    counts: tuple[int, ...]
+    counts: Counts
     content: Checksum = Checksum()
 
     @classmethod
@@ -55,7 +55,7 @@ class Record:
         found = CHUNK.fullmatch(name)
         assert found is not None
         first, last = int(found[1]) - 1, int(found[2])
-        counts = tuple(int(fields["counts"][kind]) for kind in KINDS)
+        counts = {kind: int(fields["counts"][kind]) for kind in KINDS}
         took, content = int(fields["milliseconds"]), Checksum.of_fields(fields["content"])
         return cls(first, last - first, str(fields["given"]), took, bool(fields["checked"]), counts, content)
 
@@ -65,15 +65,12 @@ class Record:
 
     def fields(self) -> dict[str, Any]:
         """The fields; the store adds those of the content."""
-        counts, took = self.counts_by_kind(), self.milliseconds
-        return {"given": self.given, "counts": counts, "milliseconds": took, "checked": self.is_checked}
+        took, is_checked = self.milliseconds, self.is_checked
+        return {"given": self.given, "counts": self.counts, "milliseconds": took, "checked": is_checked}
 
     def fits(self, given: bytes, content: bytes) -> bool:
         """Whether the chunk is of these lines, by their hash or their verdicts."""
         return self.given == hash_of(given) if self.given else validate_replies(given, content).fits
-
-    def counts_by_kind(self) -> Counts:
-        return dict(zip(KINDS, self.counts))
 
 
 @dataclasses.dataclass
@@ -100,7 +97,7 @@ class PassResult:
         self.chunks += 1
         self.milliseconds += record.milliseconds
         self.is_checked = self.is_checked and record.is_checked
-        self.counts.update(record.counts_by_kind())
+        self.counts.update(record.counts)
 
     def fields(self) -> dict[str, Any]:
         return {
@@ -175,8 +172,8 @@ class PassFolder:
         """A valid chunk from there on; None without one."""
         for known in self._firsts[bisect.bisect_left(self._firsts, first) :]:
             with contextlib.suppress(SealError):
-                if (record := self.read_record(known)) is not None:
-                    return record
+                if (found := self.read(known)) is not None:
+                    return found[0]
         return None
 
     def name_of(self, first: int) -> str:
@@ -189,12 +186,6 @@ class PassFolder:
         for name in self._inside.names():
             if CHUNK.fullmatch(name) and name not in names:
                 self._inside.remove(name)
-
-    def read_record(self, first: int) -> Record | None:
-        """The record of a stored chunk; None without one. Raises SealError."""
-        name = self.name_of(first)
-        fields = self.store.read_fields(name)
-        return None if fields is None else Record.of_fields(name, fields)
 
     def read(self, first: int) -> tuple[Record, bytes] | None:
         """A stored chunk and its output; None without one. Raises SealError."""
@@ -234,18 +225,6 @@ class PassFolder:
             pass
         why = "was cut or changed since it was stored; run again to decide it again"
         raise RunError(f"{os.path.join(self.path, name)} {why}")
-
-    def copy_all(self, target: int, path: str) -> None:
-        """Writes all output in the list's order to an open file. Raises RunError, OSError."""
-        places, place = {}, 0
-        for first in sorted(self._whole):
-            places[first], place = place, place + self._whole[first][1].size
-
-        def copy(first: int) -> None:
-            with name_errors(path):
-                write_at(target, self._read_whole(first), places[first])
-
-        collections.deque(map_in_order(copy, places, _READERS, BatchPace(1)), maxlen=0)
 
 
 def holdouts_of(folder: PassFolder) -> Iterator[bytes]:

@@ -13,14 +13,14 @@ from .._files import Checksum
 from ..counts import KINDS, UNDECIDED
 from ..limits import Limits, words_of
 from .backends import Backend
-from .chunks import CHECK, DECIDE, Counts, Identity, Retention, check_chunk, check_here, decide_chunk
-from .chunks import decide_here, describe_task, open_reply, validate_answers, validate_verdicts
-from .dispatch import Assignment, Dispatcher, Request
+from .chunks import Counts, Retention, check, decide, validate_answers, validate_verdicts
+from .dispatch import Assignment, Dispatcher
 from .errors import CheckError, FolderError, ReplyError
-from .folder import CHECKS, README, RUN, SUMMARY, Folder, RunConfig
+from .folder import CHECK_HERE, CHECKS, README, RUN, SUMMARY, Folder, RunConfig
 from .input import ListFile, StreamLines
 from .pass_folder import Outcome, PassFolder, PassResult, Record, holdouts_of, list_line_number
 from .progress import Progress
+from .replies import Identity, Output, Request
 from .store import OriginError, SealError, hash_of, seal
 
 # A chunk that was cut before is cut so again, whatever its size.
@@ -50,22 +50,16 @@ class ChunkPace:
 @dataclasses.dataclass(frozen=True)
 class RunOptions:
     """How the passes of a run are decided. `list_name` is for messages; `require_list` raises if the list has
-    changed, and is called before chunks are stored; `most_lines` bounds a chunk; `is_checked_here` has the
-    checker of this process confirm each verdict."""
+    changed, and is called before chunks are stored; `most_lines` bounds a chunk; `check` is one of CHECKS."""
 
     backend: Backend
     identity: Identity
     progress: Progress
     list_name: str
     most_lines: int | None = None
-    is_checked: bool = False
-    is_checked_here: bool = False
+    check: str = ""
     keep: Retention = Retention()
     require_list: Callable[[], None] = lambda: None
-
-    @property
-    def check(self) -> str:
-        return CHECKS[2 if self.is_checked_here else 1 if self.is_checked else 0]
 
 
 # The seconds between two syncs.
@@ -94,9 +88,10 @@ class PassRun:
     def run(self, lines: StreamLines) -> PassResult:
         """Decides the lines of all chunks but stored ones. Raises FolderError if stored ones have other lines,
         CheckError, RunError, OSError."""
-        backend, progress = self.options.backend, self.options.progress
+        options = self.options
+        tasks = Dispatcher(options.backend, options.progress, "chunks", self._finish, self._sync_if_due)
         try:
-            Dispatcher(backend, progress, self._sync_if_due, self._finish).run(self._chunks(lines))
+            tasks.run(self._chunks(lines))
         finally:
             self._sync()
         self.folder.remove_stale()
@@ -175,8 +170,6 @@ class PassRun:
 class ChunkTask(Assignment):
     """Lines of a pass, behind `first` others; then the verdicts `written`, and the `record` of the stored chunk."""
 
-    plural = "chunks"
-
     def __init__(self, run: PassRun, first: int, given: bytes, lines: int, is_stored: bool) -> None:
         self.first, self.given, self.lines = first, given, lines
         self._run, self._is_stored = run, is_stored
@@ -186,36 +179,36 @@ class ChunkTask(Assignment):
         self._counts: Counts = {}
 
     def request(self) -> Request | None:
-        limits, options = self._run.limits.numbers(), self._run.options
-        if self._is_stored or (self.written is not None and self._checks_here()):
+        """Nothing to load a stored chunk, or to check one in `accept`."""
+        limits = self._run.limits.numbers()
+        if self._is_stored:
             return None
-        if self.written is not None:
-            return Request(check_here if options.backend.is_here else check_chunk, self.written, limits)
-        if options.backend.is_here:
-            return Request(decide_here, self.given, (limits, options.is_checked))
-        return Request(decide_chunk, self.given, limits)
+        if self.written is None:
+            return Request(decide, self.given, limits)
+        return None if self._checks_here() else Request(check, self.written, limits)
 
-    def accept(self, reply: object) -> bool:
-        """Validates the stored output, a reply or a check; stores a finished chunk."""
-        options = self._run.options
+    def accept(self, output: Output | None) -> bool:
+        """Loads a stored chunk, or validates verdicts or answers; stores a finished chunk."""
         if self._is_stored:
             self._is_stored, self.is_resumed = False, self._load()
             if not self.is_resumed:
                 return False
-        elif self.written is None:
-            self._open_verdicts(reply)
-        elif not self._checks_here():
-            self._validate_answers(self.written, self._open(CHECK, self.written, reply)[0])
-        if options.is_checked and not self._is_confirmed:
+        elif output is not None:
+            if self.written is None:
+                self._counts, self.written = validate_verdicts(self.given, output.written), output.written
+            else:
+                self._validate_answers(output.written)
+            self.seconds += min(output.seconds, time.monotonic() - self.submitted)
+        if self._run.options.check and not self._is_confirmed:
             if self.written is None or not self._checks_here():
                 return False
-            self._validate_answers(self.written, check_here(self.written, self._run.limits.numbers())[0])
+            self._validate_answers(check(self.written, self._run.limits.numbers()))
         self._store()
         return True
 
     def _checks_here(self) -> bool:
         options = self._run.options
-        return options.is_checked_here and not options.backend.is_here
+        return options.check == CHECK_HERE and not options.backend.is_here
 
     def _load(self) -> bool:
         """Whether the chunk is stored and valid. Raises FolderError if the stored one has other lines."""
@@ -233,37 +226,20 @@ class ChunkTask(Assignment):
             options.progress.print_line("%s is decided again: %s" % (where, error))
             return False
         self.record, self._is_confirmed = record, record.is_checked
-        if options.is_checked and not self._is_confirmed:
-            self.written, self._counts = kept, record.counts_by_kind()
+        if options.check and not self._is_confirmed:
+            self.written, self._counts = kept, record.counts
             self.seconds = record.milliseconds / 1_000
         return True
 
-    def _open_verdicts(self, reply: object) -> None:
-        """Validates the reply of a decision. Raises ReplyError."""
-        if self._run.options.backend.is_here and isinstance(reply, tuple):
-            self.written, self.seconds, self._counts, answers = reply
-            if self._run.options.is_checked:
-                self._validate_answers(reply[0], answers)
-            return
-        written, seconds = self._open(DECIDE, self.given, reply)
-        self._counts, self.written = validate_verdicts(self.given, written), written
-        self.seconds = min(seconds, time.monotonic() - self.submitted)
-
-    def _open(self, what: str, lines: bytes, reply: object) -> tuple[bytes, float]:
-        """The output and seconds of a reply. Raises ReplyError."""
-        options = self._run.options
-        if options.backend.is_here and isinstance(reply, tuple):
-            return reply[0], reply[1]
-        return open_reply(reply, options.identity, describe_task(what, self._run.limits.numbers()), lines)
-
-    def _validate_answers(self, verdicts: bytes, answers: bytes) -> None:
+    def _validate_answers(self, answers: bytes) -> None:
         """Validates the checker's answers. Raises ReplyError, CheckError."""
+        assert self.written is not None
         try:
             validate_answers(self.lines, answers)
         except ReplyError as error:
             if error.line is None:
                 raise
-            line = verdicts.split(b"\n")[error.line].decode()
+            line = self.written.split(b"\n")[error.line].decode()
             where = self._run.describe_lines(self.first + error.line)
             raise CheckError("%s: the checker answers %s: %s" % (where, error, line)) from None
         self._is_confirmed = True
@@ -272,10 +248,9 @@ class ChunkTask(Assignment):
         """Stores the output of a chunk, unless that is stored. Raises RunError if the list has changed."""
         if self.written is not None:
             kept = self._run.options.keep.select(self.written)
-            counts, took = tuple(self._counts[kind] for kind in KINDS), min(self.seconds, 1e9)
             given = hash_of(self.given) if self._run.options.keep.only_holdouts else ""
-            milliseconds = int(took * 1_000)
-            record = Record(self.first, self.lines, given, milliseconds, self._is_confirmed, counts)
+            took = int(min(self.seconds, 1e9) * 1_000)
+            record = Record(self.first, self.lines, given, took, self._is_confirmed, self._counts)
             self._run.options.require_list()
             self.record = self._run.folder.write(record, kept)
         self.given, self.written = b"", None

@@ -12,14 +12,13 @@ import contextlib
 import dataclasses
 import errno
 import fcntl
-import functools
 import hashlib
 import json
 import os
 import re
 from typing import Any, Iterator, Mapping
 
-from .._files import PART, Checksum, Directory, id_of, name_errors, write_atomically, write_blocks
+from .._files import PART, Checksum, Directory, id_of, name_errors, write_atomically
 
 FORMAT = 4
 # How a sealed text begins in each version, and in this one, up to its length.
@@ -107,31 +106,21 @@ def begins_sealed(directory: Directory, name: str) -> bool:
     return BEGIN.startswith(found)
 
 
-def lock_folder(top: Directory, name: str, waits: bool) -> int | None:
-    """Locks a directory; if the file system locks none, the file `name` in it, and returns that. Raises
-    BlockingIOError if another process has the lock."""
-    how = fcntl.LOCK_EX | (0 if waits else fcntl.LOCK_NB)
+@contextlib.contextmanager
+def locked_folder(top: Directory, name: str, waits: bool = True) -> Iterator[int | None]:
+    """Has the lock of a directory meanwhile; if the file system locks none, that of the file `name` in it, which is
+    yielded. Raises BlockingIOError if another process has the lock, and this one doesn't wait; OSError."""
+    number, how = None, fcntl.LOCK_EX | (0 if waits else fcntl.LOCK_NB)
     try:
         fcntl.flock(top.handle, how)
     except OSError as error:
         if error.errno not in _NO_LOCKS:
             raise
         number = top.open_or_create(name)
-        try:
-            fcntl.flock(number, how)
-        except OSError:
-            os.close(number)
-            raise
-        return number
-    return None
-
-
-@contextlib.contextmanager
-def locked_folder(top: Directory, name: str) -> Iterator[None]:
-    """Waits for the lock of a directory, and has it meanwhile. Raises OSError."""
-    number = lock_folder(top, name, waits=True)
     try:
-        yield
+        if number is not None:
+            fcntl.flock(number, how)
+        yield number
     finally:
         if number is None:
             fcntl.flock(top.handle, fcntl.LOCK_UN)
@@ -204,8 +193,7 @@ class Store:
         checksum = Checksum().add_bytes(content)
         header = seal({"task": task, "of": self.origin, **fields, "content": checksum.fields()})
         over = self.folder.id_at(task) if replaces else None
-        fill = functools.partial(write_blocks, blocks=[header.encode(), content])
-        os.close(write_atomically(self.folder, task, fill, over, syncs=False))
+        os.close(write_atomically(self.folder, task, [header.encode(), content], over, syncs=False))
         self._is_synced = False
         return checksum
 

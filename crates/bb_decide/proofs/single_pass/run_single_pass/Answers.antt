@@ -35,8 +35,8 @@ returns-in-Found g c =
     let known = c.run_register_pass-end.ensures.run in
     let ends = rw c.in-Found.is at c.run_register_pass-end.ensures.ends in
     let counts = counted_so_far known c.args.meter.now _ refl c.count.ensures in
-    let made = finds_in_registers known (c.fits_registers.ensures.0 c.if-not-fits_registers.false).0
-    (c.fits_registers.ensures.0 c.if-not-fits_registers.false).1
+    let made = finds_in_registers known (c.is_small.ensures.0 c.if-not-is_small.false).0
+    (c.is_small.ensures.0 c.if-not-is_small.false).1
     (g.K.FingerprintKeys.key_of c.args.keys.now) c.args.meter.now c.count.new.meter c.in-Found.verdict ends.0 ends.1
     counts in
     record {
@@ -63,8 +63,8 @@ returns-in-Ran g c =
         record { last = steps_of end.runner; is_last = end.last; counts = counts },
         end.is_outcome,
         ends.1,
-        not_stopped_in_registers known (c.fits_registers.ensures.0 c.if-not-fits_registers.false).0
-            (c.fits_registers.ensures.0 c.if-not-fits_registers.false).1 end,
+        not_stopped_in_registers known (c.is_small.ensures.0 c.if-not-is_small.false).0
+            (c.is_small.ensures.0 c.if-not-is_small.false).1 end,
       );
       cut = tt;
       within = count_is_within _ _ _ _ _ end.last.inside counts;

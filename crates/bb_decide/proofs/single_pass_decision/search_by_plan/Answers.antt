@@ -1,6 +1,6 @@
 use Rattle.std.proofs.lemmas.Bool.{not-true, not-false}
 use Rattle.std.proofs.lemmas.Result.{err_from_is_err_and, on_err_weaker}
-use Rattle.std.proofs.Common.{IsTrue, arith, inl, inr, sym, ◌∙◌}
+use Rattle.std.proofs.Common.{arith, inl, inr, sym, ◌∙◌}
 use Rattle.bb_decide.proofs.Costs.{if_ok_both}
 use Rattle.bb_decide.proofs.SinglePassVerdicts.{both_end, both_on, chance_costs, cycle_costs, exact_costs, run_costs}
 use Rattle.bb_decide.proofs.SinglePassVerdicts.{settled_ends, single_pass_costs, single_pass_ends}

@@ -1,18 +1,32 @@
-use Rattle.std.proofs.Common.{ap, ◌∙◌}
+use Rattle.std.proofs.Common.{ap, ◌∙◌, sym}
 use Rattle.bb_machine.specs.declared.machine.TheConstants.{MAX_STATES, MAX_SYMBOLS}
 use Rattle.bb_machine.specs.Entry.{step_of}
-use Rattle.bb_machine.proofs.Tables.{entry_of-table_in, entry_named}
+use Rattle.bb_machine.proofs.Stored.{small_entry, large_entry}
+use Rattle.bb_machine.proofs.Tables.{entry_named}
 use Rattle.bb_machine.proofs.machine.Machine.step.Goals as goal
+
+pub returns-then-is_small_table-clause-value : goal.returns-then-is_small_table-clause-value
+returns-then-is_small_table-clause-value c =
+    let fields = c.self.inside in
+    small_entry fields.state_count fields.symbol_count fields.packed fields.slots c.args.self.now c.self.view_is
+    c.self.invariant (sym c.is_small_table.ensures ∙ c.if-is_small_table.true) step_of c.args.state c.args.symbol
+    c.step_at.result c.requires.in_states c.requires.in_symbols c.step_at.ensures.zero c.step_at.ensures.one
+
+pub returns-then-is_small_table-clause-named : goal.returns-then-is_small_table-clause-named
+returns-then-is_small_table-clause-named c =
+    entry_named MAX_STATES MAX_SYMBOLS c.args.self.now c.args.state c.args.symbol
+    (rw (← c.self.view_is) c.self.invariant.table.machine) c.requires.in_states c.requires.in_symbols
 
 pub returns-clause-value : goal.returns-clause-value
 returns-clause-value c =
     let fields = c.self.inside in
     c.step.ensures
     ∙ ap step_of
-    (entry_of-table_in fields.state_count fields.symbol_count fields.slots c.args.self.now c.args.state
-    c.args.symbol _ c.self.view_is c.self.invariant c.requires.in_states c.requires.in_symbols)
+    (large_entry fields.state_count fields.symbol_count fields.packed fields.slots c.args.self.now c.self.view_is
+    c.self.invariant (sym c.is_small_table.ensures ∙ c.if-is_small_table.false) c.args.state c.args.symbol _
+    c.requires.in_states c.requires.in_symbols)
 
 pub returns-clause-named : goal.returns-clause-named
 returns-clause-named c =
     entry_named MAX_STATES MAX_SYMBOLS c.args.self.now c.args.state c.args.symbol
-    (rw (← c.self.view_is) c.self.invariant.machine) c.requires.in_states c.requires.in_symbols
+    (rw (← c.self.view_is) c.self.invariant.table.machine) c.requires.in_states c.requires.in_symbols

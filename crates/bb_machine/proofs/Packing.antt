@@ -5,7 +5,7 @@ use Rattle.std.proofs.lemmas.Nat.{pow-add, div-mul-add}
 use Rattle.std.proofs.Math.Nat.{div-div-eq-div-mul}
 use Rattle.std.proofs.Math.Nat.{pow-le-pow_right}
 use Rattle.bb_machine.specs.Machine.{Table, entry_of}
-use Rattle.bb_registers.specs.Packed.{IsPackedEntry, ArePackedFrom}
+use Rattle.bb_machine.specs.Packed.{IsPackedEntry, ArePackedFrom}
 
 next_place : (n code q : ℕ) → code < 512 → (n * 512 + code) / 2 ^ (9 * suc q) ≡ n / 2 ^ (9 * q)
 next_place n code q small =
