@@ -13,7 +13,7 @@ import time
 import pytest
 from support.repository import Repository
 
-FILES = "Makefile tools/prove tools/gate tools/kit HANDLES"
+FILES = "Makefile tools/prove tools/libraries.py tools/gate tools/kit HANDLES"
 CRATES = "low: arrayvec\none: low\ntwo: low\nbb: low one two\nbb_c staticlib: low\n"
 # It checks, as `rt` does, that the crates below were proved over the sources beside them. `lib` and `run` wait
 # until all crates of $TOGETHER have begun. A source that has the word `wrong` isn't proved.
@@ -64,12 +64,26 @@ if here.name == "bb_c":
 """
 RTLIB = """import pathlib
 
+
 class Crate:
-    def __init__(self, folder):
+    cuts_libraries = False
+
+    def __init__(self, folder, *_):
         self.folder = str(folder)
 
     def stamp(self):
         return pathlib.Path(self.folder, "src/lib.rt").read_text()
+
+    def build_rlib(self, jobs, anew):
+        made = pathlib.Path(self.folder, "out/rlib")
+        made.mkdir(parents=True, exist_ok=True)
+        (made / "statements").write_text("%s %s %s" % (anew, self.cuts_libraries, jobs[0]))
+        return int("wrong" in self.stamp())
+
+
+def guarded():
+    pass
+
 
 def crates_below(top):
     return [Crate(path) for path in pathlib.Path(top, "crates").iterdir()]
@@ -168,6 +182,22 @@ def test_proof_waits_for_another_process_in_the_crate(repository: Repository) ->
         assert "low: waiting for process %d, " % os.getpid() in lines[1] and began(repository) == []
         os.close(folder)
         assert process.wait() == 0 and len(began(repository)) == 4
+
+
+def test_library_without_kept_work_keeps_statements_alone(repository: Repository) -> None:
+    """Over kept work `rt lib` proves what was edited."""
+    repository.write("../kit/bin/rtlib.py", RTLIB)
+    source, made = repository.top / "crates/low/src/lib.rt", repository.top / "crates/low/out"
+    source.write_text("wrong")
+    assert repository.run("tools/prove low").returncode == 1
+    assert stamps(repository) == stamps(repository, "rlib/stamp") == []
+    source.write_text("right")
+    assert repository.run("tools/prove low").returncode == 0 and began(repository) == []
+    assert (made / "rlib/statements").read_text() == "True True --jobs"
+    assert (made / "rlib/stamp").read_text() == "right" and stamps(repository) == ["low"]
+    (made / "incremental").mkdir()
+    assert repository.run("tools/prove low").returncode == 0 and began(repository) == ["low"]
+    require_no_copies(repository)
 
 
 def test_library_keeps_its_intermediate_code(repository: Repository) -> None:

@@ -32,6 +32,37 @@ widen_high-requires-clause-room g c =
     (g.met.T.Tape.sound c.args.tape.now) c.requires.low c.requires.high
     (λ e. c.if-self-cells.false (e ∙ c.requires.limit ∙ sym c.cells.ensures.value))
 
+pub invariant_of-self : goal.invariant_of-self
+invariant_of-self g c =
+    let runner = c.args.self.now in
+    let sound = g.met.T.Tape.sound c.args.tape.now in
+    let position_fits : FitsSigned w64 c.args.position = c.ranges.position in
+    let low_fits : FitsSigned w64 runner.low = search rules in
+    let below : c.args.position <ℤ runner.low = search rules in
+    let near : runner.low ≤ℤ (c.args.position +ℤ pos 1) = rw (← c.requires.low) c.requires.near.0 in
+    let room = room_left runner (g.T.Tape.view c.args.tape.now) c.args.position sound c.requires.low c.requires.high
+        (λ e. c.if-self-cells.false (e ∙ c.requires.limit ∙ sym c.cells.ensures.value)) in
+    record {
+      some_cell = omega arith;
+      few_cells = omega (arith, ints, room, sound.limited, c.requires.low, c.requires.high);
+      low_to_zero = simp to_z-of_z (omega (arith, ints, runner.low_to_zero, below));
+      low_small = simp to_z-of_z
+          (omega (arith, ints, room, sound.limited, sound.to_zero, c.requires.low, c.requires.high, near));
+    }
+
+pub invariant_of-self-2 : goal.invariant_of-self-2
+invariant_of-self-2 g c =
+    let runner = c.args.self.now in
+    let sound = g.met.T.Tape.sound c.args.tape.now in
+    let room = room_left runner (g.T.Tape.view c.args.tape.now) c.args.position sound c.requires.low c.requires.high
+        (λ e. c.if-self-cells.false (e ∙ c.requires.limit ∙ sym c.cells.ensures.value)) in
+    record {
+      some_cell = omega arith;
+      few_cells = omega (arith, ints, room, sound.limited, c.requires.low, c.requires.high);
+      low_to_zero = runner.low_to_zero;
+      low_small = runner.low_small;
+    }
+
 pub returns-then-position-self : goal.returns-then-position-self
 returns-then-position-self g c =
     let runner = c.args.self.now in
