@@ -21,6 +21,17 @@ returns-in-Translated-clause-cost g c =
     (c.requires.open, rw c.in-Translated.is tt) (rw c.in-Translated.is (λ tree. tree)) run)
     (rw c.in-Translated.is (rw c.with_steps-limits-in-Translated.ensures at c.check_translated.ensures.replayed))
 
+pub returns-in-Cycler-clause-cost : goal.returns-in-Cycler-clause-cost
+returns-in-Cycler-clause-cost g c =
+    let table = c.args.machine.now in
+    let bounds = c.args.limits.now in
+    let meter = c.check_cycler.new.meter in
+    where_ok (λ (given : Answer). CountsRun table (replay_bounds bounds c.args.verdict) zero_meter meter)
+    (λ (given : Answer). CountsCheck table bounds c.args.verdict meter) _
+    (λ given run. replay_counts table bounds c.args.verdict meter
+    (c.requires.open, rw c.in-Cycler.is tt) (rw c.in-Cycler.is (λ tree. tree)) run)
+    (rw c.in-Cycler.is (rw c.with_steps-limits.ensures at c.check_cycler.ensures.replayed))
+
 pub returns-in-Backward-clause-cost : goal.returns-in-Backward-clause-cost
 returns-in-Backward-clause-cost g c =
     let table = c.args.machine.now in

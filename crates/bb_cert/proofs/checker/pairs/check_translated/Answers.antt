@@ -46,6 +46,13 @@ module _ (g : given.Over) (c : In-None-2 g) where
         goes = rw at_first at second.2;
       }
 
+  -- what is followed went along both parts
+  along : g.A.Course.goes_on c.args.machine.now 0 c.args.limits.now.steps c.args.along.now c.run_to-2.new.along
+  along =
+      let first = rw (c.begin.ensures.made, c.in-None.is) at c.in_ok-answer.ensures.runs in
+      let second = rw (c.in-None-2.is, at_first, c.steps-second.ensures.value) at c.in_ok-answer-2.ensures.runs in
+      g.met.A.Course.goes_further _ _ _ _ _ _ _ first.3 second.3
+
   some_view : IsViewAt c.args.machine.now c.args.claim.first c.runner-at_first.ensures.view
   some_view =
       let runner = c.runner-at_first.ensures in
@@ -92,3 +99,8 @@ returns-clause-checks g c =
       fits_inside c.args.limits.now c.count.ensures.inside (at_second g at),
       (agree.0, said.0 (c.matches_claimed.ensures.0 c.if-not-matches_claimed.false)),
     )
+
+pub returns-clause-along : goal.returns-clause-along
+returns-clause-along g c =
+    let at = (goal.at.returns-clause-along g c).In-None-2 in
+    λ ok. along g at
