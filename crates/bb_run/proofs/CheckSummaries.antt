@@ -25,7 +25,7 @@ use Rattle.bb_run.proofs.CheckReplies.{answered, check_reply_is_unique, never_bo
 use Rattle.bb_run.proofs.CheckReplies.{one_verdict, opened}
 
 -- the words of answers that leave a run clean, and of those that don't
-word_if_fine : (given : Answer) → is_fine given ≡ true
+pub word_if_fine : (given : Answer) → is_fine given ≡ true
     → (answer_text given ≡ answer_text answer.Ok) ⊎ (answer_text given ≡ answer_text answer.Open)
 word_if_fine answer.Ok e = inl refl
 word_if_fine answer.Open e = inr refl

@@ -1,9 +1,7 @@
-use Rattle.std.proofs.Common.{◌≡◌, ◌⊎◌, rules, refl, sym, inl, inr, ◌∙◌, true, true≢false}
+use Rattle.std.proofs.Common.{◌≡◌, rules, refl, sym, inr, ◌∙◌, true}
 use Rattle.bb_cert.specs.checker.Answer.{answer_text, is_fine}
-use Rattle.bb_cert.specs.declared.checker.answer.Answer.{Answer}
-use Rattle.bb_cert.specs.declared.checker.answer.Answer.TheVariants as answer
 use Rattle.bb_run.specs.CheckReply.{unread_text}
-use Rattle.bb_run.proofs.Facts.{answered, fine_by_word, fine_reply, opened, unread_is_apart}
+use Rattle.bb_run.proofs.Facts.{answered, fine_by_word, fine_reply, opened, unread_is_apart, word_if_fine}
 use Rattle.bb_c.proofs.Given.{filled_by, too_short_by}
 use Rattle.bb_c.proofs.checking.bb_check_line.Goals as goal
 
@@ -25,13 +23,6 @@ returns-in-Ok-answer-clause-short c = λ is.
     let answer = rw c.in-Ok.ensures.given at c.in-Ok-answer.ensures in
     too_short_by _ _ _ _ _ _ (c.fill_buffer-in-Ok-answer.ensures.short is) c.word-in-Ok-answer.ensures
     (answered _ _ _ _ _ of answer)
-
-word_if_fine : (given : Answer) → is_fine given ≡ true
-    → (answer_text given ≡ answer_text answer.Ok) ⊎ (answer_text given ≡ answer_text answer.Open)
-word_if_fine answer.Ok e = inl refl
-word_if_fine answer.Bad e = absurd (true≢false (sym e))
-word_if_fine answer.Over e = absurd (true≢false (sym e))
-word_if_fine answer.Open e = inr refl
 
 pub returns-in-Ok-answer-clause-clean : goal.returns-in-Ok-answer-clause-clean
 returns-in-Ok-answer-clause-clean c = λ is.
