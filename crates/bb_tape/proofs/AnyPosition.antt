@@ -1,6 +1,6 @@
 -- A window that is widened to any position: down to the lower end, then up to the higher one.
-use Rattle.std.proofs.Common.{◌≡◌, ℕ, ◌<◌, ℤ, pos, ◌-ℤ◌, ◌≤ℤ◌, ◌<ℤ◌, Bool, true, false, cond, ap, ◌∙◌, arith}
-use Rattle.std.proofs.Common.{w64, to_z, of_z}
+use Rattle.std.proofs.Common.{◌≡◌, ℕ, ◌<◌, ◌≤◌, ℤ, pos, ◌-ℤ◌, ◌≤ℤ◌, ◌<ℤ◌, Bool, true, false, cond, ap, ◌∙◌}
+use Rattle.std.proofs.Common.{arith, w64, to_z, of_z}
 use Rattle.std.proofs.lemmas.Int.{ints, clamps, to_z-of_z}
 use Rattle.std.specs.Prelude.{unsigned_abs}
 use Rattle.std.specs.Int.{int_min, int_max}
@@ -38,6 +38,16 @@ ends_are {s} {p} {low} {high} sound fits el eh least most =
       high = either_is _ above fits (max_is above fits most) ∙ ap (λ x. int_max x p) eh;
     }
 
+-- there is room for one more position on the way
+module _ (s : TapeView) (sound : IsSound s) (p q : ℤ) where
+  pub room_down : p <ℤ q → q ≤ℤ s.low → width (visited s p) ≤ℤ pos s.limit
+      → width (visited s q) <ℤ pos s.limit
+  room_down further on room = omega (arith, ints, clamps, further, on, room, sound.from_zero, sound.to_zero)
+
+  pub room_up : q <ℤ p → s.high ≤ℤ q → width (visited s p) ≤ℤ pos s.limit
+      → width (visited s q) <ℤ pos s.limit
+  room_up further on room = omega (arith, ints, clamps, further, on, room, sound.from_zero, sound.to_zero)
+
 module _ {s : TapeView} {p lo hi : ℤ} (ends : AreEnds s p lo hi) where
   -- there is room for both
   pub is_small : {span limit : ℕ} → span ≡ unsigned_abs (hi -ℤ lo) → limit ≡ s.limit → span < limit
@@ -46,6 +56,14 @@ module _ {s : TapeView} {p lo hi : ℤ} (ends : AreEnds s p lo hi) where
       let is : pos (unsigned_abs (hi -ℤ lo)) ≡ hi -ℤ lo =
       abs_is (hi -ℤ lo) (omega (arith, ints, clamps)) in
       omega (arith, ints, is)
+
+  -- there is no room for both
+  pub is_wide : {span limit : ℕ} → span ≡ unsigned_abs (hi -ℤ lo) → limit ≡ s.limit → limit ≤ span
+      → pos s.limit <ℤ width (visited s p)
+  is_wide es el most =
+      let is : pos (unsigned_abs (hi -ℤ lo)) ≡ hi -ℤ lo =
+      abs_is (hi -ℤ lo) (omega (arith, ints, clamps, ends.order, ends.low, ends.high)) in
+      omega (arith, ints, clamps, is, es, el, most, ends.low, ends.high)
 
   pub room_low : (hi -ℤ lo) <ℤ pos s.limit → width (visited s lo) ≤ℤ pos s.limit
   room_low small = omega (arith, ints, clamps)

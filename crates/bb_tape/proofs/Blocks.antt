@@ -1,23 +1,44 @@
 -- The cells of a block in a ring: they have neighbouring indices.
 use Rattle.std.proofs.Common.{◌≡◌, ◌≢◌, ℕ, ◌+◌, ◌<◌, ◌≤◌, ◌⊎◌, inl, inr, ℤ, pos, ◌+ℤ◌, ◌-ℤ◌, ◌≤ℤ◌, ◌<ℤ◌, List}
-use Rattle.std.proofs.Common.{get_or, refl, ap, sym, ◌∙◌, arith, bit_or, min, ◌*◌, ◌%◌, ◌^◌, w64}
+use Rattle.std.proofs.Common.{get_or, refl, ap, sym, ◌∙◌, arith, bit_or, min, ◌*◌, ◌%◌, ◌^◌, w64, to_z, of_z}
 use Rattle.std.specs.Int.{bit_at}
 use Rattle.std.specs.Prelude.{unsigned_abs}
-use Rattle.std.proofs.lemmas.Int.{ints, by_lt_z}
+use Rattle.std.proofs.lemmas.Int.{ints, by_lt_z, to_z-of_z}
 use Rattle.std.proofs.lemmas.Bool.{cases_eq, cases_lt}
 use Rattle.std.proofs.lemmas.Nat.Bits.{bit_at-lt, bit_at_set_other, bit_at_set_same}
+use mir.Val.{SFits}
 use Rattle.bb_tape.specs.declared.window.Window.{Window}
 use Rattle.bb_tape.specs.declared.tape.TheConstants.{MAX_SYMBOL}
-use Rattle.bb_tape.specs.Block.{PutsBits}
+use Rattle.bb_tape.specs.Block.{IsBlock, PutsBits}
 use Rattle.bb_tape.specs.Content.{Content, cell}
 use Rattle.bb_tape.specs.RingIndex.{ring_index}
 use Rattle.bb_tape.specs.Ring.{IsClear, ring_content}
-use Rattle.bb_tape.specs.TapeView.{IsSound, TapeView, written}
+use Rattle.bb_tape.specs.TapeView.{IsInside, IsSound, TapeView, written}
 use Rattle.bb_tape.specs.Windowed.{view_of}
 use Rattle.bb_tape.proofs.Content.{cell-with_cell-other, cell-with_cell-same}
 use Rattle.bb_tape.proofs.RingIndex.{index_in}
 use Rattle.bb_tape.proofs.Rings.{by_window, cell-ring-above, cell-ring-below, cell-ring-inside, offset}
 use Rattle.bb_tape.proofs.Sound.{sound_from}
+use Rattle.bb_tape.proofs.WiderWindows.{narrow_fits}
+
+-- the cell at a place of a block, as a number of 64 bits
+module _ {s : TapeView} {from d : ℤ} {place : ℕ} (sound : IsSound s) (block : IsBlock s from)
+    (fits : SFits w64 from) (few : place < 64) (e : d ≡ pos place) where
+  abbrev position : ℤ
+  position = to_z w64 (of_z w64 (to_z w64 (of_z w64 from) +ℤ to_z w64 (of_z w64 d)))
+
+  pub position_is : position ≡ from +ℤ pos place
+  position_is =
+      let small = narrow_fits d (omega (arith, ints, e)) (omega (arith, ints, e, few)) in
+      let wide = narrow_fits (from +ℤ pos place)
+      (omega (arith, ints, block.low, sound.to_zero, sound.within, sound.limited))
+      (omega (arith, ints, block.high, few, sound.from_zero, sound.within, sound.limited)) in
+      ap (λ z. to_z w64 (of_z w64 z)) (λ i. to_z-of_z w64 from fits i +ℤ (to_z-of_z w64 d small ∙ e) i)
+      ∙ to_z-of_z w64 _ wide
+
+  pub position_inside : IsInside s position
+  position_inside =
+      (omega (arith, ints, position_is, block.low), omega (arith, ints, position_is, block.high, few))
 
 wider_out : (p from : ℤ) (n : ℕ) → (p <ℤ from) ⊎ ((from +ℤ pos (n + 1)) ≤ℤ p) → (p <ℤ from) ⊎ ((from +ℤ pos n) ≤ℤ p)
 wider_out p from n (inl under) = inl under

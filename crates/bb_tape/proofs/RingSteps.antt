@@ -1,13 +1,17 @@
 -- What the calls on a ring do to its cells.
 use Rattle.std.proofs.Common.{◌≡◌, ◌≢◌, ◌⊎◌, inl, inr, ℕ, ◌<◌, ◌≤◌, ℤ, pos, ◌+ℤ◌, ◌-ℤ◌, ◌≤ℤ◌, ◌<ℤ◌, List}
 use Rattle.std.proofs.Common.{get_or, set, length, sym, ap, ◌∙◌, arith, get_or-set_same, get_or-set_other}
-use Rattle.std.proofs.Common.{◌++◌, take, drop, w64, to_z, of_z}
+use Rattle.std.proofs.Common.{◌++◌, ◌-◌, replicate, refl, take, drop, w64, to_z, of_z}
+use Rattle.std.proofs.Math.ListN.{get_or-append}
 use Rattle.std.proofs.Math.Seq.{take-append_seam}
 use Rattle.std.proofs.lemmas.Int.{ints, clamps, by_lt_z, to_z-of_z}
 use Rattle.std.proofs.lemmas.Bool.{cases_lt}
 use Rattle.std.proofs.lemmas.Grind.{same_number_lists}
+use Rattle.std.proofs.lemmas.List.{get_or-append_right, get_or-drop, get_or-replicate, get_or-take}
+use Rattle.std.proofs.lemmas.List.{get_or_past, length-append, length-drop, length-replicate, length-take-le}
 use Rattle.std.specs.Prelude.{unsigned_abs}
 use Rattle.std.specs.Int.{int_min, int_max}
+use borrow.Rule.Slice.PartMut.{put_mid}
 use mir.Val.{SFits}
 use Rattle.bb_tape.specs.declared.ring.RingTape.{RingTape}
 use Rattle.bb_tape.specs.declared.window.Window.{Window}
@@ -27,6 +31,49 @@ pub written_back : {len : ℕ} {new : List ℕ} (old : List ℕ) → length new 
     → take len (new ++ drop (length new) old) ≡ new
 written_back {new} old long =
     ap (λ n. take n (new ++ drop (length new) old)) (sym long) ∙ take-append_seam new _
+
+zeroes : (n k : ℕ) → get_or (replicate {A = ℕ} n 0) k 0 ≡ 0
+zeroes n k = elim (cases_lt k n) [
+  | inl lt ↦ get_or-replicate n k 0 0 lt
+  | inr ge ↦ get_or_past (replicate {A = ℕ} n 0) k 0 (omega (arith, length-replicate {A = ℕ} n 0, ge))
+]
+
+-- cells with a new front, of which those from back on are then filled
+module _ (cells before filled : List ℕ) (front back : ℕ) (same : length before ≡ length (take front cells))
+    (in_front : front ≤ length cells) (in_back : back ≤ length cells) where
+  abbrev mid : List ℕ
+  mid = before ++ drop front cells
+
+  long : length before ≡ front
+  long = same ∙ length-take-le front cells in_front
+
+  within : back ≤ length mid
+  within =
+      omega (arith, long, length-append before (drop front cells), length-drop front cells, in_front, in_back)
+
+  pub filled_back : (n k : ℕ) → filled ≡ replicate {A = ℕ} n 0 → back ≤ k
+      → get_or (put_mid back (length mid - back) mid filled) k 0 ≡ 0
+  filled_back n k e from =
+      let rest = drop (length mid - back) (drop back mid) in
+      let none = length-drop (length mid - back) (drop back mid) in
+      let left = length-drop back mid in
+      get_or-append_right (take back mid) (filled ++ rest) back k 0 (length-take-le back mid within) from
+      ∙ elim (cases_lt (k - back) (length filled)) [
+        | inl lt ↦
+            get_or-append filled rest 0 (k - back) lt ∙ ap (λ xs. get_or xs (k - back) 0) e
+            ∙ zeroes n (k - back)
+        | inr ge ↦
+            get_or-append_right filled rest (length filled) (k - back) 0 refl ge
+            ∙ get_or_past rest (k - back - length filled) 0 (omega (arith, none, left))
+      ]
+
+  pub filled_between : (k : ℕ) → front ≤ k → k < back
+      → get_or (put_mid back (length mid - back) mid filled) k 0 ≡ get_or cells k 0
+  filled_between k from to =
+      get_or-append (take back mid) (filled ++ drop (length mid - back) (drop back mid)) 0 k
+      (omega (arith, length-take-le back mid within, to))
+      ∙ get_or-take back mid k 0 to ∙ get_or-append_right before (drop front cells) front k 0 long from
+      ∙ get_or-drop front cells (k - front) 0 ∙ ap (λ i. get_or cells i 0) (omega (arith, from))
 
 -- the window is the cell 0 alone, which is 0
 pub ring_blank : (cells : List ℕ) (w : Window) → w.low ≡ pos 0 → w.high ≡ pos 0 → get_or cells 0 0 ≡ 0

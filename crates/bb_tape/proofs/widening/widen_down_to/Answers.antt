@@ -2,8 +2,19 @@ use Rattle.std.proofs.Common.{◌≡◌, ◌<ℤ◌, ◌≤ℤ◌, ◌-ℤ◌, �
 use Rattle.std.proofs.Common.{FitsSigned}
 use Rattle.std.proofs.lemmas.Int.{ints, to_z-of_z}
 use Rattle.bb_tape.specs.TapeView.{visited}
+use Rattle.bb_tape.proofs.AnyPosition.{room_down}
 use Rattle.bb_tape.proofs.Facts.{visited-visited-low}
 use Rattle.bb_tape.proofs.widening.widen_down_to.Goals as goal
+
+pub widen_low-requires-clause-room : goal.widen_low-requires-clause-room
+widen_low-requires-clause-room g c =
+    let s = g.T.Tape.view c.args.tape.now in
+    let sound = g.met.T.Tape.sound c.args.tape.now in
+    let low : ℤ = to_z w64 c.loop-low.low-bits in
+    let same : to_z w64 (of_z w64 c.args.p) ≡ c.args.p = to_z-of_z w64 _ c.ranges.p in
+    let test : c.args.p <ℤ low = let t = rw same at c.loop-low-test.true in grind (arith, ints, t) in
+    rw c.loop-low.invariant.view
+    (room_down s sound c.args.p low test c.loop-low.invariant.to c.requires.room)
 
 pub loop-low-preserved : goal.loop-low-preserved
 loop-low-preserved g c =

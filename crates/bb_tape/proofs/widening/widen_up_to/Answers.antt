@@ -2,8 +2,19 @@ use Rattle.std.proofs.Common.{◌≡◌, ◌<ℤ◌, ◌≤ℤ◌, ◌+ℤ◌, �
 use Rattle.std.proofs.Common.{FitsSigned}
 use Rattle.std.proofs.lemmas.Int.{ints, to_z-of_z}
 use Rattle.bb_tape.specs.TapeView.{visited}
+use Rattle.bb_tape.proofs.AnyPosition.{room_up}
 use Rattle.bb_tape.proofs.Facts.{visited-visited-high}
 use Rattle.bb_tape.proofs.widening.widen_up_to.Goals as goal
+
+pub widen_high-requires-clause-room : goal.widen_high-requires-clause-room
+widen_high-requires-clause-room g c =
+    let s = g.T.Tape.view c.args.tape.now in
+    let sound = g.met.T.Tape.sound c.args.tape.now in
+    let high : ℤ = to_z w64 c.loop-high.high-bits in
+    let same : to_z w64 (of_z w64 c.args.p) ≡ c.args.p = to_z-of_z w64 _ c.ranges.p in
+    let test : high <ℤ c.args.p = let t = rw same at c.loop-high-test.true in grind (arith, ints, t) in
+    rw c.loop-high.invariant.view
+    (room_up s sound c.args.p high test c.loop-high.invariant.from c.requires.room)
 
 pub loop-high-preserved : goal.loop-high-preserved
 loop-high-preserved g c =

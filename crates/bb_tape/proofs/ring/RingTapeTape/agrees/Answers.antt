@@ -4,6 +4,9 @@ use Rattle.bb_tape.specs.Ring.{ring_content, symbols}
 use Rattle.bb_tape.proofs.Pieces.{symbols_agree, agree_symbols}
 use Rattle.bb_tape.proofs.ring.RingTapeTape.agrees.Goals as goal
 
+pub pieces-requires-2 : goal.pieces-requires-2
+pieces-requires-2 c = rw (to_z-of_z w64 _ c.ranges.other_from) c.requires.there
+
 pub returns : goal.returns
 returns c =
     let x = ring_content c.args.self.now.cells.items c.args.self.now.window in
