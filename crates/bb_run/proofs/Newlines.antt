@@ -1,8 +1,9 @@
 -- How bytes are cut at newlines, and which texts have none.
-use Rattle.std.proofs.Common.{◌≡◌, ℕ, ◌<◌, ◌^◌, List}
-use Rattle.std.proofs.Common.{[], ◌∷◌, ◌++◌, length, codes, decimal, Option, Some, None}
+use Rattle.std.proofs.Common.{◌≡◌, ℕ, ◌+◌, ◌-◌, ◌<◌, ◌^◌, List}
+use Rattle.std.proofs.Common.{[], ◌∷◌, ◌++◌, length, take, drop, codes, decimal, Option, Some, None}
 use Rattle.std.proofs.Common.{refl}
 use Rattle.std.proofs.Common.{sym, ◌∙◌, ap, subst, rules, arith, append_assoc}
+use Rattle.std.proofs.lemmas.List.{length-drop, take_all}
 use Rattle.std.proofs.lemmas.List.Elements.{All-append, All-cons, All-from_get_or, All-head, All-nil}
 use Rattle.std.proofs.lemmas.List.Elements.{All-tail}
 use Rattle.std.proofs.lemmas.Fmt.{digits_decimal}
@@ -38,6 +39,12 @@ same_cut (c ∷ a) (d ∷ b) x y p q is =
     let rest = same_cut a b x y (All-tail IsOther c a p) (All-tail IsOther d b q) cc in
     let prefixes : a ≡ b = rest.0 in
     (cc, rest.1)
+
+-- the slice after a place, up to the end of the bytes, is all of the rest
+pub slice_after : (bytes : List ℕ) (at : ℕ)
+    → take (length bytes - (at + 1)) (drop (at + 1) bytes) ≡ drop (at + 1) bytes
+slice_after bytes at =
+    take_all (length bytes - (at + 1)) (drop (at + 1) bytes) (omega (arith, length-drop (at + 1) bytes))
 
 -- ---- lines
 

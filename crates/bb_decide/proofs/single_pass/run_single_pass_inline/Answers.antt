@@ -1,5 +1,6 @@
 use Rattle.std.proofs.lemmas.Bool.{both_ways}
-use Rattle.std.proofs.Common.{refl, rules, ◌≡◌, ◌∙◌, ap, arith, subst}
+use Rattle.std.proofs.Common.{refl, rules, ◌≡◌, ◌∙◌, ap, arith, subst, w64, FitsSigned}
+use Rattle.std.proofs.lemmas.Int.{to_z-of_z}
 use Rattle.std.specs.Prelude.{IfSome}
 use Rattle.bb_decide.specs.inside.BlockPasses.{IsBlockTable}
 use Rattle.bb_sim.specs.declared.meter.Meter.{Meter}
@@ -203,6 +204,11 @@ pass_block-pass-requires-clause-can g c =
       right_passed = passed_again _ _ _ _ (search rules) c.position.ensures c.pass.ensures;
       left_passed = passed_again _ _ _ _ (search rules) c.position-in-loop-moved.ensures c.pass-in-loop-moved.ensures;
     }
+
+pub pass_block-pass-requires-clause-block : goal.pass_block-pass-requires-clause-block
+pass_block-pass-requires-clause-block g c =
+    let from_fits : FitsSigned w64 c.in-Some-block_for.from = search rules in
+    simp to_z-of_z c.in-Some-block_for.ensures
 
 pub of_side-right-requires-in_default-widened_side : goal.of_side-right-requires-in_default-widened_side
 of_side-right-requires-in_default-widened_side g c =
