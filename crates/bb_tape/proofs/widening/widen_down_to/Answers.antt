@@ -1,9 +1,9 @@
-use Rattle.std.proofs.Common.{◌≡◌, ◌<ℤ◌, ◌≤ℤ◌, ◌-ℤ◌, ℤ, pos, ap, ◌∙◌, arith, rules, to_z, of_z, w64}
-use Rattle.std.proofs.Common.{FitsSigned}
-use Rattle.std.proofs.lemmas.Int.{ints, to_z-of_z}
+use Rattle.std.proofs.Common.{◌≡◌, ◌<ℤ◌, ◌≤ℤ◌, ◌-ℤ◌, ℤ, pos, ap, ◌∙◌, arith, to_z, of_z, w64}
+use Rattle.std.proofs.lemmas.Int.{ints, clamps, to_z-of_z}
 use Rattle.bb_tape.specs.TapeView.{visited}
 use Rattle.bb_tape.proofs.AnyPosition.{room_down}
 use Rattle.bb_tape.proofs.Facts.{visited-visited-low}
+use Rattle.bb_tape.proofs.WiderWindows.{narrow_fits}
 use Rattle.bb_tape.proofs.widening.widen_down_to.Goals as goal
 
 pub widen_low-requires-clause-room : goal.widen_low-requires-clause-room
@@ -22,9 +22,11 @@ loop-low-preserved g c =
     let low : ℤ = to_z w64 c.loop-low.low-bits in
     let same : to_z w64 (of_z w64 c.args.p) ≡ c.args.p = to_z-of_z w64 _ c.ranges.p in
     let test : c.args.p <ℤ low = let t = rw same at c.loop-low-test.true in grind (arith, ints, t) in
-    let fits : FitsSigned w64 (low -ℤ pos 1) = search rules in
-    let next : to_z w64 (of_z w64 (low -ℤ pos 1)) ≡ low -ℤ pos 1 = to_z-of_z w64 _ fits in
     let sound = g.met.T.Tape.sound c.args.tape.now in
+    let fits = narrow_fits (low -ℤ pos 1)
+    (omega (arith, ints, clamps, test, c.requires.room, sound.to_zero, sound.limited))
+    (omega (arith, ints, c.loop-low.invariant.to, sound.from_zero)) in
+    let next : to_z w64 (of_z w64 (low -ℤ pos 1)) ≡ low -ℤ pos 1 = to_z-of_z w64 _ fits in
     let order : low ≤ℤ s.high =
     omega (arith, ints, c.loop-low.invariant.to, sound.from_zero, sound.to_zero) in
     let further : to_z w64 (of_z w64 (low -ℤ pos 1)) ≤ℤ low = omega (arith, ints, next) in
