@@ -27,3 +27,9 @@ block_start-requires-clause-low g c =
     let sound = g.met.T.Tape.sound c.advance.new.tape in
     let near = (rw c.in-Stepped.is at c.in-Ok.ensures.reaches).1 in
     omega (arith, ints, near.0, sound.to_zero, sound.within, sound.limited)
+
+pub block_start-requires-clause-high : goal.block_start-requires-clause-high
+block_start-requires-clause-high g c =
+    let sound = g.met.T.Tape.sound c.advance.new.tape in
+    let near = (rw c.in-Stepped.is at c.in-Ok.ensures.reaches).1 in
+    omega (arith, ints, near.1, sound.from_zero, sound.within, sound.limited)

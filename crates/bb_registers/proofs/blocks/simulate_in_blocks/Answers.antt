@@ -6,6 +6,11 @@ returns-in_default-clause-counted g c begun counts =
     let still = goes_on_again c.loop-from.invariant c.find_block.ensures.goes in
     c.simulate_from.ensures.counted begun (still.counts begun counts)
 
+pub returns-in_default-clause-cut : goal.returns-in_default-clause-cut
+returns-in_default-clause-cut g c begun counts =
+    let still = goes_on_again c.loop-from.invariant c.find_block.ensures.goes in
+    c.simulate_from.ensures.cut begun (still.counts begun counts)
+
 pub returns-in_default-clause-within : goal.returns-in_default-clause-within
 returns-in_default-clause-within g c begun counts =
     let still = goes_on_again c.loop-from.invariant c.find_block.ensures.goes in
