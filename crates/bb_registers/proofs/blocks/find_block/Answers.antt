@@ -1,3 +1,5 @@
+use Rattle.std.proofs.Common.{arith}
+use Rattle.std.proofs.lemmas.Int.{ints}
 use Rattle.bb_registers.specs.Blocks.{GoesOn}
 use Rattle.bb_registers.proofs.InBlocks.{goes_on_again, goes_on_next}
 use Rattle.bb_registers.proofs.blocks.find_block.Given as given
@@ -18,3 +20,16 @@ loop-moved-preserved g c = next g (goal.at.loop-moved-preserved g c).In-Stepped
 
 pub returns-in-Some-clause-goes : goal.returns-in-Some-clause-goes
 returns-in-Some-clause-goes g c = next g (goal.at.returns-in-Some-clause-goes g c).In-Stepped
+
+-- the head is next to the window
+pub block_start-requires-clause-low : goal.block_start-requires-clause-low
+block_start-requires-clause-low g c =
+    let sound = g.met.T.Tape.sound c.advance.new.tape in
+    let near = (rw c.in-Stepped.is at c.in-Ok.ensures.reaches).1 in
+    omega (arith, ints, near.0, sound.to_zero, sound.within, sound.limited)
+
+pub block_start-requires-clause-high : goal.block_start-requires-clause-high
+block_start-requires-clause-high g c =
+    let sound = g.met.T.Tape.sound c.advance.new.tape in
+    let near = (rw c.in-Stepped.is at c.in-Ok.ensures.reaches).1 in
+    omega (arith, ints, near.1, sound.from_zero, sound.within, sound.limited)

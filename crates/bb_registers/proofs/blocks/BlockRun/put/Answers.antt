@@ -42,6 +42,20 @@ place_fits g c =
       known.sound.limited,
     ))
 
+pub unreachable-requires : goal.unreachable-requires
+unreachable-requires g c =
+    let grows = c.in_default.ensures.memory in
+    let fixed = c.requires.fixed in
+    cc
+
+pub overflow_add-from : goal.overflow_add-from
+overflow_add-from g c =
+    let known = c.requires.run in
+    let sound = known.sound in
+    rw (to_z-of_z w64 _ c.ranges.from)
+    (position_fits _ (omega (arith, ints, known.block.low, sound.to_zero, sound.within, sound.limited))
+    (omega (arith, ints, known.block.high, sound.from_zero, sound.within, sound.limited)))
+
 pub overflow_add-from-2 : goal.overflow_add-from-2
 overflow_add-from-2 g c =
     let after = (goal.at.overflow_add-from-2 g c).After-lowest_position in

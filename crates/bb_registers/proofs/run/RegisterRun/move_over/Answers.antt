@@ -13,6 +13,23 @@ use Rattle.bb_registers.proofs.run.RegisterRun.move_over.Goals.{After-widen_wind
 pub lowest_position-low-requires : goal.lowest_position-low-requires
 lowest_position-low-requires g c = record { some = window_some c.requires.run }
 
+pub overflow_sub-high : goal.overflow_sub-high
+overflow_sub-high g c =
+    let known = c.requires.run in
+    let sound = known.sound in
+    omega (arith, ints, window_ends known, sound.from_zero, sound.to_zero, c.cells.ensures.value)
+
+pub overflow_sub-high-2 : goal.overflow_sub-high-2
+overflow_sub-high-2 g c =
+    let known = c.requires.run in
+    let sound = known.sound in
+    omega (arith, ints, window_ends known, sound.from_zero, sound.to_zero, c.cells.ensures.value)
+
+pub overflow_cast-high : goal.overflow_cast-high
+overflow_cast-high g c =
+    let cells = c.show_accepted.ensures.accepted.cells in
+    position_fits _ (omega (arith, ints)) (omega (arith, ints, c.cells.ensures.value, cells))
+
 pub overflow_add-high : goal.overflow_add-high
 overflow_add-high g c =
     let low = c.lowest_position-low.ensures in
