@@ -1,4 +1,4 @@
-use Rattle.std.proofs.Common.{◌∙◌, ap, rules, sym}
+use Rattle.std.proofs.Common.{◌≡◌, ◌∙◌, ap, rules, sym}
 use Rattle.bb_tape.specs.Content.{score}
 use Rattle.bb_tape.specs.TapeView.{TapeView}
 use Rattle.bb_sim.specs.Runner.{steps_of}
@@ -6,7 +6,18 @@ use Rattle.bb_sim.proofs.Counting.{cut_here, has_stepped}
 use Rattle.bb_sim.proofs.Endings.{simulated}
 use Rattle.bb_sim.proofs.Outcomes.{halted_end, no_halt_inside, wide_at_end}
 use Rattle.bb_sim.proofs.RunLaws.{count_is_within}
+use Rattle.bb_sim.specs.declared.runner.Moved.{Moved}
+use Rattle.bb_sim.specs.declared.runner.Moved.TheVariants.{Halted, NoSteps, NoCells, Stepped}
 use Rattle.bb_sim.proofs.simulation.run_machine.Goals as goal
+
+halted_apart : (moved : Moved) → moved ≡ Halted → moved ≡ Stepped → ⊥
+halted_apart moved is stepped = cc
+
+no_steps_apart : (moved : Moved) → moved ≡ NoSteps → moved ≡ Stepped → ⊥
+no_steps_apart moved is stepped = cc
+
+no_cells_apart : (moved : Moved) → moved ≡ NoCells → moved ≡ Stepped → ⊥
+no_cells_apart moved is stepped = cc
 
 pub loop-runner-init : goal.loop-runner-init
 loop-runner-init g c = record {
@@ -29,7 +40,7 @@ returns-in-Halted g c begun counts =
     let run = here.run begun counts in
     let call = c.in_ok-advance.ensures in
     let stays = rw c.in-Halted.is at call.moves in
-    simulated run call.stands _ _ (λ stepped. cc) call.reaches call.moves
+    simulated run call.stands _ _ (halted_apart _ c.in-Halted.is) call.reaches call.moves
     (call.limit ∙ here.limit ∙ sym c.requires.limit)
     (λ last. halted_end run.stands last.inside (rw c.in-Halted.is at call.answers) _ _
     (c.steps.ensures ∙ ap steps_of stays.runner)
@@ -40,7 +51,7 @@ returns-in-NoSteps g c begun counts =
     let here = c.loop-runner.invariant in
     let call = c.in_ok-advance.ensures in
     let asked = rw c.in-NoSteps.is at call.answers in
-    simulated (here.run begun counts) call.stands _ _ (λ stepped. cc) call.reaches call.moves
+    simulated (here.run begun counts) call.stands _ _ (no_steps_apart _ c.in-NoSteps.is) call.reaches call.moves
     (call.limit ∙ here.limit ∙ sym c.requires.limit)
     (λ last. (no_halt_inside _ _ _ last.inside last asked.0, rw (← asked.1) last.inside.within_cells))
 
@@ -49,7 +60,7 @@ returns-in-NoCells g c begun counts =
     let here = c.loop-runner.invariant in
     let call = c.in_ok-advance.ensures in
     let asked = rw c.in-NoCells.is at call.answers in
-    simulated (here.run begun counts) call.stands _ _ (λ stepped. cc) call.reaches call.moves
+    simulated (here.run begun counts) call.stands _ _ (no_cells_apart _ c.in-NoCells.is) call.reaches call.moves
     (call.limit ∙ here.limit ∙ sym c.requires.limit)
     (λ last. (no_halt_inside _ _ _ last.inside last asked.0, wide_at_end _ _ _ last.inside asked.2 asked.1))
 
