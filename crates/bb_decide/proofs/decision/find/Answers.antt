@@ -21,8 +21,9 @@ returns-clause-within g c = within_deciders c.in_ok-verdict.ensures.within c.bac
 pub returns-clause-found : goal.returns-clause-found
 returns-clause-found g c =
     let passes = rw c.in-None.is at c.in_ok-verdict.ensures.found in
-    IfOk-weaker c.backward.result _ _ (λ found. walk_of_all c.args.machine.now c.args.limits.now c.args.plan found
-    passes (not-false _ c.if-not-plan.false)) c.backward.ensures.found
+    IfOk-weaker c.backward.result _ _
+    (λ found. walk_of_all _ _ c.args.plan found passes (not-false _ c.if-not-plan.false))
+    c.backward.ensures.found
 
 pub returns-in-Some-clause-found : goal.returns-in-Some-clause-found
 returns-in-Some-clause-found g c =
