@@ -7,7 +7,7 @@ use Rattle.bb_decide.proofs.SinglePassVerdicts.{walk_counted}
 use Rattle.bb_decide.proofs.RunsMade.{runs_before_tree, runs_broken_off, runs_counted, runs_counted_beside}
 use Rattle.bb_sim.specs.Outcome.{HaltsNowhere}
 use Rattle.bb_decide.specs.inside.Search.{SearchesFind}
-use Rattle.bb_decide.proofs.Costs.{verdict_of_deciders}
+use Rattle.bb_decide.proofs.Costs.{no_walk_counted, verdict_of_deciders}
 use Rattle.bb_decide.proofs.WithinCost.{walk_of_all, within_cost, within_runs}
 use Rattle.bb_decide.proofs.single_pass_decision.verdict_in_single_pass.Given as given
 use Rattle.bb_decide.proofs.single_pass_decision.verdict_in_single_pass.Goals as goal
@@ -136,3 +136,28 @@ returns-in-Some-clause-verdict g c =
     verdict_of_deciders c.args.machine.now c.args.limits.now c.args.plan c.in-Some.verdict open_here.0
     (walk_of_all _ _ _ (Some c.in-Some.verdict) open_here.1 (not-false _ c.if-not-plan.false)
     (rw c.in-Some.is at c.in_ok-verdict-2.ensures.found))
+
+pub returns-in-None-clause-verdict : goal.returns-in-None-clause-verdict
+returns-in-None-clause-verdict g c =
+    let none = rw c.in-None.is at c.in_ok-verdict-2.ensures.found in
+    elim c.match-outcome.branch [
+      | in-NoSteps w ↦
+          let ended = rw (c.in-Ran.is, w.in-NoSteps.is) at c.in_ok-verdict.ensures.ended in
+          rw w.why-is (ended.0, (ended.1.0, ended.1.1, λ on. none))
+      | in-NoCells w ↦
+          let ended = rw (c.in-Ran.is, w.in-NoCells.is) at c.in_ok-verdict.ensures.ended in
+          rw w.why-is (ended.0, (ended.1.0, ended.1.1, λ on. none))
+    ]
+
+pub returns-then-not-plan-clause-walk : goal.returns-then-not-plan-clause-walk
+returns-then-not-plan-clause-walk g c =
+    let within = c.in_ok-verdict.ensures.within in
+    no_walk_counted _ _ _ _ (within.most_levels ∙ ap (λ (m : Meter). m.most_levels) c.new.ensures)
+    (within.nodes ∙ ap (λ (m : Meter). m.nodes) c.new.ensures)
+    (λ made. both_ways _ (not-true _ c.if-not-plan.true) made.3)
+
+pub returns-then-not-plan-clause-bound : goal.returns-then-not-plan-clause-bound
+returns-then-not-plan-clause-bound g c = elim c.match-outcome.branch [
+  | in-NoSteps w ↦ rw (c.in-Ran.is, w.in-NoSteps.is) at c.in_ok-verdict.ensures.costs
+  | in-NoCells w ↦ rw (c.in-Ran.is, w.in-NoCells.is) at c.in_ok-verdict.ensures.costs
+]
