@@ -26,3 +26,4 @@ pub mod Translations
 pub mod Verdicts
 pub mod SinglePass
 pub mod BlockPasses
+pub mod WithinCost

@@ -1,8 +1,29 @@
 use Rattle.std.proofs.lemmas.Bool.{both_ways, not-true, not-false}
 use Rattle.std.proofs.Common.{refl, ◌∙◌}
+use Rattle.std.proofs.lemmas.Result.{IfOk-weaker}
 use Rattle.bb_decide.proofs.Costs.{counts_all, counts_searches, if_ok_both, no_walk_counted}
 use Rattle.bb_decide.proofs.Costs.{search_of_all}
+use Rattle.bb_decide.proofs.WithinCost.{walk_of_all, within_deciders, within_searches}
 use Rattle.bb_decide.proofs.decision.find.Goals as goal
+
+pub returns-in_err-verdict-clause-within : goal.returns-in_err-verdict-clause-within
+returns-in_err-verdict-clause-within g c = within_searches c.in_err-verdict.ensures.within
+
+pub returns-in-Some-clause-within : goal.returns-in-Some-clause-within
+returns-in-Some-clause-within g c = within_searches c.in_ok-verdict.ensures.within
+
+pub returns-then-not-plan-clause-within : goal.returns-then-not-plan-clause-within
+returns-then-not-plan-clause-within g c = within_searches c.in_ok-verdict.ensures.within
+
+pub returns-clause-within : goal.returns-clause-within
+returns-clause-within g c = within_deciders c.in_ok-verdict.ensures.within c.backward.ensures.within
+
+pub returns-clause-found : goal.returns-clause-found
+returns-clause-found g c =
+    let passes = rw c.in-None.is at c.in_ok-verdict.ensures.found in
+    IfOk-weaker c.backward.result _ _
+    (λ found. walk_of_all _ _ c.args.plan found passes (not-false _ c.if-not-plan.false))
+    c.backward.ensures.found
 
 pub returns-in-Some-clause-found : goal.returns-in-Some-clause-found
 returns-in-Some-clause-found g c =

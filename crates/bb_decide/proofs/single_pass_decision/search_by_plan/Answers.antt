@@ -1,4 +1,4 @@
-use Rattle.std.proofs.lemmas.Bool.{not-true, not-false}
+use Rattle.std.proofs.lemmas.Bool.{both_ways, not-true, not-false}
 use Rattle.std.proofs.lemmas.Result.{err_from_is_err_and, on_err_weaker}
 use Rattle.std.proofs.Common.{arith, inl, inr, sym, ◌∙◌}
 use Rattle.bb_decide.proofs.Costs.{if_ok_both}
@@ -7,6 +7,7 @@ use Rattle.bb_decide.proofs.SinglePassVerdicts.{settled_ends, single_pass_costs,
 use Rattle.bb_decide.proofs.Refused.{breaks_alone, breaks_in_cycles, breaks_in_records, breaks_single_pass}
 use Rattle.bb_decide.proofs.RunsMade.{both_open, cycles_add, no_search_adds, open_adds, settled_adds}
 use Rattle.bb_decide.proofs.RunsMade.{single_pass_adds, translations_add}
+use Rattle.bb_decide.proofs.WithinCost.{cycles_end, translations_end, within_one, within_three, within_two}
 use Rattle.bb_decide.proofs.single_pass_decision.search_by_plan.Goals as goal
 
 pub simulate_in_registers-requires-clause-room : goal.simulate_in_registers-requires-clause-room
@@ -157,3 +158,58 @@ returns-in_err-search_result-clause-cut g c =
     let fault = err_from_is_err_and c.from_residual-in_err-search_result.result
     c.from_residual-in_err-search_result.ensures.1 in
     rw (fault.1, not-false _ c.if-not-plan.false, not-false _ c.if-not-plan-3.false) (breaks_single_pass _ _ c.in_err-search_result.ensures.cut)
+
+-- ---- a search alone, or none
+
+pub returns-then-not-plan-2-clause-ended : goal.returns-then-not-plan-2-clause-ended
+returns-then-not-plan-2-clause-ended g c = (
+  c.in_ok-outcome.ensures.outcome,
+  (
+    λ on. absurd (both_ways _ (not-true _ c.if-not-plan-2.true) on),
+    λ on. absurd (both_ways _ (not-true _ c.if-not-plan.true) on),
+  ),
+)
+
+pub returns-then-not-plan-clause-ended : goal.returns-then-not-plan-clause-ended
+returns-then-not-plan-clause-ended g c =
+    if_ok_both c.seek_cycle.result _ _ _ (cycles_end _ _ c.args.plan (not-false _ c.if-not-plan-2.false)
+    (both_ways _ (not-true _ c.if-not-plan.true))) c.seek_cycle.ensures.found c.seek_cycle.ensures.ran
+
+pub returns-then-not-plan-3-clause-ended : goal.returns-then-not-plan-3-clause-ended
+returns-then-not-plan-3-clause-ended g c =
+    if_ok_both c.seek_translation.result _ _ _ (translations_end _ _ c.args.plan
+    (both_ways _ (not-true _ c.if-not-plan-3.true)) (not-false _ c.if-not-plan.false))
+    c.seek_translation.ensures.found c.seek_translation.ensures.ran
+
+-- ---- no more than three runs
+
+pub returns-in_err-outcome-clause-within : goal.returns-in_err-outcome-clause-within
+returns-in_err-outcome-clause-within g c = within_one c.in_err-outcome.ensures.within
+
+pub returns-then-not-plan-2-clause-within : goal.returns-then-not-plan-2-clause-within
+returns-then-not-plan-2-clause-within g c = within_one c.in_ok-outcome.ensures.within
+
+pub returns-then-not-plan-clause-within : goal.returns-then-not-plan-clause-within
+returns-then-not-plan-clause-within g c = within_one c.seek_cycle.ensures.within
+
+pub returns-then-not-plan-3-clause-within : goal.returns-then-not-plan-3-clause-within
+returns-then-not-plan-3-clause-within g c = within_one c.seek_translation.ensures.within
+
+pub returns-in_err-search_result-clause-within : goal.returns-in_err-search_result-clause-within
+returns-in_err-search_result-clause-within g c = within_one c.in_err-search_result.ensures.within
+
+pub returns-in-Some-clause-within : goal.returns-in-Some-clause-within
+returns-in-Some-clause-within g c = within_one c.in_ok-search_result.ensures.within
+
+pub returns-in_err-search_result-2-clause-within : goal.returns-in_err-search_result-2-clause-within
+returns-in_err-search_result-2-clause-within g c =
+    within_two c.in_ok-search_result.ensures.within c.in_err-search_result-2.ensures.within
+
+pub returns-then-is_settled-clause-within : goal.returns-then-is_settled-clause-within
+returns-then-is_settled-clause-within g c =
+    within_two c.in_ok-search_result.ensures.within c.in_ok-search_result-2.ensures.within
+
+pub returns-clause-within : goal.returns-clause-within
+returns-clause-within g c =
+    within_three c.in_ok-search_result.ensures.within c.in_ok-search_result-2.ensures.within
+    c.seek_translation-2.ensures.within

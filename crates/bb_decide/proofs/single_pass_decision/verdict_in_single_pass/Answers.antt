@@ -7,6 +7,8 @@ use Rattle.bb_decide.proofs.SinglePassVerdicts.{walk_counted}
 use Rattle.bb_decide.proofs.RunsMade.{runs_before_tree, runs_broken_off, runs_counted, runs_counted_beside}
 use Rattle.bb_sim.specs.Outcome.{HaltsNowhere}
 use Rattle.bb_decide.specs.inside.Search.{SearchesFind}
+use Rattle.bb_decide.proofs.Costs.{no_walk_counted, verdict_of_deciders}
+use Rattle.bb_decide.proofs.WithinCost.{walk_of_all, within_cost, within_runs}
 use Rattle.bb_decide.proofs.single_pass_decision.verdict_in_single_pass.Given as given
 use Rattle.bb_decide.proofs.single_pass_decision.verdict_in_single_pass.Goals as goal
 use Rattle.bb_decide.proofs.single_pass_decision.verdict_in_single_pass.Goals.{After-backward, in-NoSteps, in-NoCells}
@@ -103,3 +105,59 @@ returns-in_err-verdict-clause-cut g c =
 
 pub returns-in-Found-clause-bound : goal.returns-in-Found-clause-bound
 returns-in-Found-clause-bound g c = rw c.in-Found.is at c.in_ok-verdict.ensures.costs
+
+pub returns-in_err-verdict-clause-within : goal.returns-in_err-verdict-clause-within
+returns-in_err-verdict-clause-within g c = within_runs c.new.ensures c.in_err-verdict.ensures.within
+
+pub returns-in-Found-clause-within : goal.returns-in-Found-clause-within
+returns-in-Found-clause-within g c = within_runs c.new.ensures c.in_ok-verdict.ensures.within
+
+pub returns-in-Halt-clause-within : goal.returns-in-Halt-clause-within
+returns-in-Halt-clause-within g c = within_runs c.new.ensures c.in_ok-verdict.ensures.within
+
+pub returns-then-not-plan-clause-within : goal.returns-then-not-plan-clause-within
+returns-then-not-plan-clause-within g c = within_runs c.new.ensures c.in_ok-verdict.ensures.within
+
+pub returns-in_err-verdict-2-clause-within : goal.returns-in_err-verdict-2-clause-within
+returns-in_err-verdict-2-clause-within g c =
+    within_cost c.new.ensures c.in_ok-verdict.ensures.within c.backward.ensures.within
+
+pub returns-in-Some-clause-within : goal.returns-in-Some-clause-within
+returns-in-Some-clause-within g c =
+    within_cost c.new.ensures c.in_ok-verdict.ensures.within c.backward.ensures.within
+
+pub returns-in-None-clause-within : goal.returns-in-None-clause-within
+returns-in-None-clause-within g c =
+    within_cost c.new.ensures c.in_ok-verdict.ensures.within c.backward.ensures.within
+
+pub returns-in-Some-clause-verdict : goal.returns-in-Some-clause-verdict
+returns-in-Some-clause-verdict g c =
+    let open_here = open_yet g (goal.at.returns-in-Some-clause-verdict g c).After-backward in
+    verdict_of_deciders c.args.machine.now c.args.limits.now c.args.plan c.in-Some.verdict open_here.0
+    (walk_of_all _ _ _ (Some c.in-Some.verdict) open_here.1 (not-false _ c.if-not-plan.false)
+    (rw c.in-Some.is at c.in_ok-verdict-2.ensures.found))
+
+pub returns-in-None-clause-verdict : goal.returns-in-None-clause-verdict
+returns-in-None-clause-verdict g c =
+    let none = rw c.in-None.is at c.in_ok-verdict-2.ensures.found in
+    elim c.match-outcome.branch [
+      | in-NoSteps w ↦
+          let ended = rw (c.in-Ran.is, w.in-NoSteps.is) at c.in_ok-verdict.ensures.ended in
+          rw w.why-is (ended.0, (ended.1.0, ended.1.1, λ on. none))
+      | in-NoCells w ↦
+          let ended = rw (c.in-Ran.is, w.in-NoCells.is) at c.in_ok-verdict.ensures.ended in
+          rw w.why-is (ended.0, (ended.1.0, ended.1.1, λ on. none))
+    ]
+
+pub returns-then-not-plan-clause-walk : goal.returns-then-not-plan-clause-walk
+returns-then-not-plan-clause-walk g c =
+    let within = c.in_ok-verdict.ensures.within in
+    no_walk_counted _ _ _ _ (within.most_levels ∙ ap (λ (m : Meter). m.most_levels) c.new.ensures)
+    (within.nodes ∙ ap (λ (m : Meter). m.nodes) c.new.ensures)
+    (λ made. both_ways _ (not-true _ c.if-not-plan.true) made.3)
+
+pub returns-then-not-plan-clause-bound : goal.returns-then-not-plan-clause-bound
+returns-then-not-plan-clause-bound g c = elim c.match-outcome.branch [
+  | in-NoSteps w ↦ rw (c.in-Ran.is, w.in-NoSteps.is) at c.in_ok-verdict.ensures.costs
+  | in-NoCells w ↦ rw (c.in-Ran.is, w.in-NoCells.is) at c.in_ok-verdict.ensures.costs
+]
