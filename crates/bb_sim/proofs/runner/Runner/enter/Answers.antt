@@ -8,6 +8,14 @@ use Rattle.bb_sim.proofs.Standing.{inside_fits, inside_stays, room_left, fits_ne
 use Rattle.bb_sim.proofs.Standing.{high_stays, high_grows}
 use Rattle.bb_sim.proofs.runner.Runner.enter.Goals as goal
 
+pub is_inside-requires-clause-low : goal.is_inside-requires-clause-low
+is_inside-requires-clause-low g c =
+    rw (to_z-of_z w64 _ c.ranges.position) (rw (← c.requires.low) c.requires.near.0)
+
+pub is_inside-requires-clause-high : goal.is_inside-requires-clause-high
+is_inside-requires-clause-high g c =
+    rw (to_z-of_z w64 _ c.ranges.position) (rw (← c.requires.high) c.requires.near.1)
+
 pub returns-then-is_inside : goal.returns-then-is_inside
 returns-then-is_inside g c =
     let view = g.T.Tape.view c.args.tape.now in
@@ -25,6 +33,34 @@ returns-then-is_inside g c =
         high = sym (max-same _ _ inside.1);
       },
     )
+
+pub widen_low-requires-clause-next : goal.widen_low-requires-clause-next
+widen_low-requires-clause-next g c =
+    let position_fits : FitsSigned w64 c.args.position = c.ranges.position in
+    let low_fits : FitsSigned w64 c.args.self.now.low = search rules in
+    let below : c.args.position <ℤ c.args.self.now.low = search rules in
+    simp to_z-of_z (omega (arith, ints, c.requires.near.0, c.requires.low, below))
+
+pub widen_low-requires-clause-room : goal.widen_low-requires-clause-room
+widen_low-requires-clause-room g c =
+    room_left c.args.self.now (g.T.Tape.view c.args.tape.now) c.args.position
+    (g.met.T.Tape.sound c.args.tape.now) c.requires.low c.requires.high
+    (λ e. c.if-self-cells.false (e ∙ c.requires.limit ∙ sym c.cells.ensures.value))
+
+pub overflow_add-self : goal.overflow_add-self
+overflow_add-self g c = omega (arith, c.args.self.now.few_cells)
+
+pub widen_high-requires-clause-next : goal.widen_high-requires-clause-next
+widen_high-requires-clause-next g c =
+    let runner = c.args.self.now in
+    let position_fits : FitsSigned w64 c.args.position = c.ranges.position in
+    let low_fits : FitsSigned w64 runner.low = search rules in
+    let at : runner.low ≤ℤ c.args.position = search rules in
+    let test = simp to_z-of_z at c.is_inside.ensures in
+    let outside : (low_of runner ≤ℤ c.args.position) × (c.args.position ≤ℤ high_of runner) → ⊥ = λ h.
+    let yes : IsTrue c.is_inside.result = test.1 h in absurd (search rules) in
+    simp to_z-of_z (next_above runner (g.T.Tape.view c.args.tape.now) c.args.position
+    (g.met.T.Tape.sound c.args.tape.now) c.requires.low c.requires.high outside c.requires.near at)
 
 pub widen_high-requires-clause-room : goal.widen_high-requires-clause-room
 widen_high-requires-clause-room g c =
