@@ -76,6 +76,18 @@ fits_inside {table} bounds inside at = not_wide _ _ (subst (λ k. span table k �
 
 -- ---- counts of a run
 
+-- a run that came to its limit of steps is counted whole
+pub whole_run : {table : Table} (bounds : Bounds) {n : ℕ} {meter : Meter} → Inside table bounds n
+    → n ≡ bounds.steps → CountsTo table n zero_meter meter → CountsRun table bounds zero_meter meter
+whole_run bounds inside at counts = record {
+  last = _;
+  is_last = record {
+    inside = inside;
+    greatest = λ m is. (let few = is.within_steps in omega (arith, few, at));
+  };
+  counts = counts;
+}
+
 pub run_counts : (table : Table) (verdict : Verdict) (meter : Meter) → levels_of verdict ≡ 0
     → nodes_of verdict ≡ 0
     → CountsTo table (last_step verdict) zero_meter meter → CountsClaim verdict meter
