@@ -1,5 +1,5 @@
 -- Why each kind of claim is answered as it is.
-use Rattle.std.proofs.Common.{◌≡◌, ℕ, ◌+◌, ◌<◌, ◌≤◌, Some, inl, inr, ap, sym, subst, ◌∙◌, arith}
+use Rattle.std.proofs.Common.{◌≡◌, ℕ, ◌+◌, ◌<◌, ◌≤◌, max, Some, inl, inr, ap, sym, subst, ◌∙◌, arith}
 use Rattle.std.specs.Prelude.{◌≢◌}
 use Rattle.bb_machine.specs.Limits.{Bounds}
 use Rattle.bb_machine.specs.Machine.{Table}
@@ -103,6 +103,19 @@ run_counts table verdict meter no_levels no_nodes is =
 pub no_window : (table : Table) (bounds : Bounds) (verdict : Verdict) {width : ℕ}
     → (IsReplayed bounds verdict → ⊥) → width ≡ 0 → CountsWindow table bounds verdict width
 no_window table bounds verdict not_replayed none = inr (not_replayed, none)
+
+-- a claim that is replayed counts the span of its last step
+pub replay_window : (table : Table) (bounds : Bounds) (verdict : Verdict) (meter : Meter)
+    → IsReplayed bounds verdict → CountsRun table (replay_bounds bounds verdict) zero_meter meter
+    → CountsWindow table bounds verdict meter.most_cells
+replay_window table bounds verdict meter replayed run =
+    let most : meter.most_cells ≡ max 0 (span table run.last) = ap (λ (m : Meter). m.most_cells) run.counts in
+    inl (record {
+      is_replayed = replayed;
+      last = run.last;
+      is_last = run.is_last;
+      is_span = omega (arith, most);
+    })
 
 -- where nothing has to be run, a rule says so
 pub settled_so : (bounds : Bounds) (verdict : Verdict) (given : Answer) → Settles bounds verdict (Some given)
