@@ -80,7 +80,8 @@ returns-in-Translated-clause-counted g c =
     rw c.in-Translated.is (rw c.with_steps-limits-in-Translated.ensures at c.check_translated.ensures.counted)
 
 pub returns-in-Translated-clause-tapes : goal.returns-in-Translated-clause-tapes
-returns-in-Translated-clause-tapes g c = rw c.with_steps-limits-in-Translated.ensures at c.check_translated.ensures.tapes
+returns-in-Translated-clause-tapes g c =
+    rw c.with_steps-limits-in-Translated.ensures at c.check_translated.ensures.tapes
 
 pub returns-in-Translated-clause-window : goal.returns-in-Translated-clause-window
 returns-in-Translated-clause-window g c =
@@ -91,7 +92,8 @@ returns-in-Translated-clause-window g c =
     (λ (given : Answer). CountsWindow table bounds c.args.verdict meter.most_cells) _
     (λ given run. replay_window table bounds c.args.verdict meter
     (c.requires.open, rw c.in-Translated.is tt) run)
-    (rw c.in-Translated.is (rw c.with_steps-limits-in-Translated.ensures at c.check_translated.ensures.replayed))
+    (rw c.in-Translated.is
+    (rw c.with_steps-limits-in-Translated.ensures at c.check_translated.ensures.replayed))
 
 pub returns-in-Translated-clause-along : goal.returns-in-Translated-clause-along
 returns-in-Translated-clause-along g c =
@@ -101,4 +103,5 @@ returns-in-Translated-clause-along g c =
     c.in-Translated.extent in
     rw c.in-Translated.is (where_ok (λ (given : Answer). given ≡ answer.Ok → goes)
     (λ (given : Answer). given ≡ answer.Ok → IsOfPair claim → goes) _
-    (λ given along ok pair. along ok) (rw c.with_steps-limits-in-Translated.ensures at c.check_translated.ensures.along))
+    (λ given along ok pair. along ok)
+    (rw c.with_steps-limits-in-Translated.ensures at c.check_translated.ensures.along))
