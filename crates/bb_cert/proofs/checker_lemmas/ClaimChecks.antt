@@ -1,5 +1,5 @@
 -- Why each kind of claim is answered as it is.
-use Rattle.std.proofs.Common.{◌≡◌, ℕ, ◌+◌, ◌<◌, ◌≤◌, Some, inl, inr, ap, sym, subst, ◌∙◌, arith}
+use Rattle.std.proofs.Common.{◌≡◌, ℕ, ◌+◌, ◌<◌, ◌≤◌, max, Some, inl, inr, ap, sym, subst, ◌∙◌, arith}
 use Rattle.std.specs.Prelude.{◌≢◌}
 use Rattle.bb_machine.specs.Limits.{Bounds}
 use Rattle.bb_machine.specs.Machine.{Table}
@@ -76,6 +76,18 @@ fits_inside {table} bounds inside at = not_wide _ _ (subst (λ k. span table k �
 
 -- ---- counts of a run
 
+-- a run that came to its limit of steps is counted whole
+pub whole_run : {table : Table} (bounds : Bounds) {n : ℕ} {meter : Meter} → Inside table bounds n
+    → n ≡ bounds.steps → CountsTo table n zero_meter meter → CountsRun table bounds zero_meter meter
+whole_run bounds inside at counts = record {
+  last = _;
+  is_last = record {
+    inside = inside;
+    greatest = λ m is. (let few = is.within_steps in omega (arith, few, at));
+  };
+  counts = counts;
+}
+
 pub run_counts : (table : Table) (verdict : Verdict) (meter : Meter) → levels_of verdict ≡ 0
     → nodes_of verdict ≡ 0
     → CountsTo table (last_step verdict) zero_meter meter → CountsClaim verdict meter
@@ -91,6 +103,19 @@ run_counts table verdict meter no_levels no_nodes is =
 pub no_window : (table : Table) (bounds : Bounds) (verdict : Verdict) {width : ℕ}
     → (IsReplayed bounds verdict → ⊥) → width ≡ 0 → CountsWindow table bounds verdict width
 no_window table bounds verdict not_replayed none = inr (not_replayed, none)
+
+-- a claim that is replayed counts the span of its last step
+pub replay_window : (table : Table) (bounds : Bounds) (verdict : Verdict) (meter : Meter)
+    → IsReplayed bounds verdict → CountsRun table (replay_bounds bounds verdict) zero_meter meter
+    → CountsWindow table bounds verdict meter.most_cells
+replay_window table bounds verdict meter replayed run =
+    let most : meter.most_cells ≡ max 0 (span table run.last) = ap (λ (m : Meter). m.most_cells) run.counts in
+    inl (record {
+      is_replayed = replayed;
+      last = run.last;
+      is_last = run.is_last;
+      is_span = omega (arith, most);
+    })
 
 -- where nothing has to be run, a rule says so
 pub settled_so : (bounds : Bounds) (verdict : Verdict) (given : Answer) → Settles bounds verdict (Some given)

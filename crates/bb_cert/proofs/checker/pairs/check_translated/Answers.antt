@@ -1,8 +1,8 @@
-use Rattle.std.proofs.Common.{◌≡◌, Bool, true, false, sym, subst, ◌∙◌}
+use Rattle.std.proofs.Common.{◌≡◌, Bool, true, false, sym, subst, ◌∙◌, refl}
 use Rattle.bb_tape.specs.TapeView.{TapeView}
 use Rattle.bb_cert.specs.inside.Runs.{IsViewAt, made_of, saved_steps}
-use Rattle.bb_cert.specs.inside.RegisterChecks.{IsKeptUpTo}
-use Rattle.bb_cert.proofs.checker_lemmas.ClaimChecks.{fits_inside}
+use Rattle.bb_cert.specs.inside.RegisterChecks.{IsKeptUpTo, claim_of}
+use Rattle.bb_cert.proofs.checker_lemmas.ClaimChecks.{fits_inside, run_counts, whole_run}
 use Rattle.bb_cert.proofs.record_lemmas.KeptReplays.{followed_from_start, follows_on, kept_there, stands_there}
 use Rattle.bb_cert.proofs.verdict_lemmas.Extents.{said_as_found}
 use Rattle.bb_cert.proofs.checker.pairs.check_translated.Given as given
@@ -104,3 +104,24 @@ pub returns-clause-along : goal.returns-clause-along
 returns-clause-along g c =
     let at = (goal.at.returns-clause-along g c).In-None-2 in
     λ ok. along g at
+
+pub returns-in_default-clause-replayed : goal.returns-in_default-clause-replayed
+returns-in_default-clause-replayed g c =
+    let at = (goal.at.returns-in_default-clause-replayed g c).In-None-2 in
+    whole_run c.args.limits.now c.count.ensures.inside (at_second g at) c.count.ensures.counts
+
+pub returns-then-not-matches_claimed-clause-replayed : goal.returns-then-not-matches_claimed-clause-replayed
+returns-then-not-matches_claimed-clause-replayed g c =
+    let at = (goal.at.returns-then-not-matches_claimed-clause-replayed g c).In-None-2 in
+    whole_run c.args.limits.now c.count.ensures.inside (at_second g at) c.count.ensures.counts
+
+pub returns-clause-replayed : goal.returns-clause-replayed
+returns-clause-replayed g c =
+    let at = (goal.at.returns-clause-replayed g c).In-None-2 in
+    whole_run c.args.limits.now c.count.ensures.inside (at_second g at) c.count.ensures.counts
+
+pub returns-clause-counted : goal.returns-clause-counted
+returns-clause-counted g c =
+    let at = (goal.at.returns-clause-counted g c).In-None-2 in
+    λ ok. run_counts c.args.machine.now (claim_of c.args.limits.now c.args.claim) _ refl refl
+    (rw (at_second g at) at c.count.ensures.counts)

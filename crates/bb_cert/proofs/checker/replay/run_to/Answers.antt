@@ -66,3 +66,15 @@ returns-in-There-2-clause-saved g c before =
 pub returns-in-Cut-2-clause-saved : goal.returns-in-Cut-2-clause-saved
 returns-in-Cut-2-clause-saved g c before =
     rw c.in-OnTape.is at (saved_so_far g (goal.at.returns-in-Cut-2-clause-saved g c).In-OnTape before)
+
+pub returns-in-There-clause-within : goal.returns-in-There-clause-within
+returns-in-There-clause-within g c = c.go_on.ensures.within
+
+pub returns-in-Cut-clause-within : goal.returns-in-Cut-clause-within
+returns-in-Cut-clause-within g c = c.go_on.ensures.within
+
+pub returns-in-There-2-clause-within : goal.returns-in-There-2-clause-within
+returns-in-There-2-clause-within g c = c.go_on-2.ensures.within
+
+pub returns-in-Cut-2-clause-within : goal.returns-in-Cut-2-clause-within
+returns-in-Cut-2-clause-within g c = c.go_on-2.ensures.within
