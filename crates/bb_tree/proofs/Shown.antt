@@ -14,6 +14,8 @@ use Rattle.bb_machine.specs.declared.entry.Next.{Next}
 use Rattle.bb_machine.specs.declared.entry.Next.TheVariants.{State}
 use Rattle.bb_machine.specs.declared.entry.Entry.{Entry}
 use Rattle.bb_machine.specs.declared.entry.Entry.TheVariants.{Undefined, Go}
+use Rattle.bb_machine.specs.declared.machine.TheConstants.{MAX_SYMBOLS}
+use Rattle.bb_machine.specs.Entry.{IsEntryOf}
 use Rattle.bb_tape.specs.Content.{Content, blank, cell, with_cell, score}
 use Rattle.bb_tape.proofs.Facts.{cell-blank, cell-with_cell-same, cell-with_cell-other, by_position}
 use Rattle.bb_tape.proofs.Facts.{same_content, score-blank, score-with_cell}
@@ -151,6 +153,15 @@ pub named_at : (states : ℕ) (list : List Rule) → AllByRecursion (IsRule stat
     (d : Rule) → index < length list → IsRule states (get_or list index d)
 named_at states list all index d h =
     All-get_or (IsRule states) list index d h (All-from_recursion (IsRule states) list all)
+
+-- a rule's symbol to be written is one of the machine's
+pub writes_symbol : (states : ℕ) {list seen : List Rule} → seen ≡ list → AllByRecursion (IsRule states) list
+    → {index : ℕ} (d : Rule) → index < length list → {write : ℕ} {dir : Dir} {next : Next}
+    → (get_or seen index d).entry ≡ Go write dir next → write < MAX_SYMBOLS
+writes_symbol states {list} same named {index} d less entry =
+    let is = named_at states list named index d less in
+    let written = ap (λ xs. (get_or xs index d).entry) (sym same) ∙ entry in
+    (subst (IsEntryOf states MAX_SYMBOLS) written is.entry).0
 
 -- a rule is tried, which stands in the list that the code reads
 module _ {list seen : List Rule} (same : seen ≡ list) (content : Content) (f : Frame) {index : ℕ}

@@ -1,10 +1,13 @@
 use Rattle.std.proofs.Common.{ℕ, ◌+◌, ◌<◌, ◌≤◌, inl, inr, FitsSigned, w64, refl}
 use Rattle.std.proofs.Common.{◌≡◌, Err, ap, ◌∙◌, arith, rules}
 use Rattle.bb_tape.specs.declared.tape.TapeFault.TheVariants.{Cells}
-use Rattle.std.proofs.lemmas.Int.{to_z-of_z}
+use Rattle.std.proofs.lemmas.Int.{ints, to_z-of_z}
+use Rattle.bb_tree.specs.inside.Walk.{too_deep, too_many}
 use Rattle.bb_tree.proofs.Entering.{edge_refused, has_some, room_entered, matched_start}
 use Rattle.bb_tree.proofs.Entering.{entered_frame, inside_visited, room_for, room_widened}
 use Rattle.bb_tree.proofs.traversal.enter.Goals as goal
+use Rattle.bb_tree.proofs.traversal.enter.Goals.{then-most-level-via-then-most-level}
+use Rattle.bb_tree.proofs.traversal.enter.Goals.{then-most-level-via-else-most-level+then-most-entered}
 
 pub has_no_end-requires-clause-state : goal.has_no_end-requires-clause-state
 has_no_end-requires-clause-state g c =
@@ -77,3 +80,45 @@ returns-clause-counted g c =
 
 pub returns-clause-within : goal.returns-clause-within
 returns-clause-within g c = omega arith
+
+pub returns-then-most-level-clause-refused : goal.returns-then-most-level-clause-refused
+returns-then-most-level-clause-refused g c = elim c.then-most-level.branch [
+  | then-most-level-via-then-most-level w ↦ too_deep w.if-most-level.true
+  | then-most-level-via-else-most-level+then-most-entered w ↦ too_many w.if-most-entered.true
+]
+
+pub has_no_end-requires-clause-low : goal.has_no_end-requires-clause-low
+has_no_end-requires-clause-low g c =
+    omega (arith, ints, c.requires.branch.not_below, c.requires.level)
+
+pub has_no_end-requires-clause-high : goal.has_no_end-requires-clause-high
+has_no_end-requires-clause-high g c =
+    omega (arith, ints, c.requires.branch.not_above, c.requires.level)
+
+pub overflow_add-branch : goal.overflow_add-branch
+overflow_add-branch g c = omega (arith, c.requires.branch.symbol)
+
+pub write-requires-clause-symbol : goal.write-requires-clause-symbol
+write-requires-clause-symbol g c = omega (arith, c.requires.branch.symbol)
+
+pub returns-in_default-write-clause-limit : goal.returns-in_default-write-clause-limit
+returns-in_default-write-clause-limit g c = rw (c.in_default-write.ensures.err, c.in-Ok.ensures.ok) refl
+
+pub returns-in_default-write-clause-memory : goal.returns-in_default-write-clause-memory
+returns-in_default-write-clause-memory g c = c.in_default-write.ensures.only_memory.1
+
+pub overflow_add-level : goal.overflow_add-level
+overflow_add-level g c = omega (arith, c.requires.level)
+
+pub count_known-nonzero_known-requires-clause-few : goal.count_known-nonzero_known-requires-clause-few
+count_known-nonzero_known-requires-clause-few g c =
+    omega (arith, c.requires.branch.few_nonzero, c.requires.level)
+
+pub returns-then-nonzero_known-eq0-clause-limit : goal.returns-then-nonzero_known-eq0-clause-limit
+returns-then-nonzero_known-eq0-clause-limit g c = rw (c.in-Ok-write.ensures.ok, c.in-Ok.ensures.ok) refl
+
+pub range-next-requires-clause-state : goal.range-next-requires-clause-state
+range-next-requires-clause-state g c = c.requires.branch.state
+
+pub returns-clause-limit : goal.returns-clause-limit
+returns-clause-limit g c = rw (c.in-Ok-write.ensures.ok, c.in-Ok.ensures.ok) refl

@@ -1,5 +1,9 @@
-use Rattle.std.proofs.Common.{◌≡◌, ℕ, ◌+◌, ◌<◌, ◌≤◌, refl, ◌∙◌, arith, rules}
+use Rattle.std.proofs.Common.{◌≡◌, ℕ, ◌+◌, ◌-◌, ◌*◌, ◌<◌, ◌≤◌, length, refl, ap, ◌∙◌, length-append}
+use Rattle.std.proofs.Common.{arith, rules}
+use Rattle.std.proofs.lemmas.Int.{ints}
 use Rattle.bb_machine.specs.declared.limits.TheConstants.{MAX_LEVELS}
+use Rattle.bb_tree.specs.declared.traversal.Count.{Count}
+use Rattle.bb_tree.specs.Path.{frames_of}
 use Rattle.bb_tree.specs.inside.Walk.{endless_of, starts_of}
 use Rattle.bb_tree.proofs.Entering.{room_written}
 use Rattle.bb_tree.proofs.Exploring.{exploring_begins, top_is, top_low, top_high}
@@ -148,3 +152,69 @@ returns-in-None-pop g c =
       depth = c.pop.ensures.depth ∙ c.loop-branch.invariant.depth;
       memory = tt;
     }
+
+pub enter-requires-clause-branch : goal.enter-requires-clause-branch
+enter-requires-clause-branch g c = rw c.requires.blank c.requires.root
+
+pub enter-requires-clause-beside : goal.enter-requires-clause-beside
+enter-requires-clause-beside g c =
+    let sound = g.met.T.Tape.sound c.args.tape.now in (
+      omega (arith, ints, sound.from_zero, c.requires.root.not_below),
+      omega (arith, ints, sound.to_zero, c.requires.root.not_above),
+    )
+
+pub overflow_add-len : goal.overflow_add-len
+overflow_add-len g c =
+    let now = c.loop-branch.invariant.exploring in
+    let most = most_levels _ _ _ c.requires.path c.loop-branch.invariant.depth c.loop-branch.path.few in
+    omega (arith, few_levels _ _ _ _ now.few most c.len.ensures)
+
+smaller_entered : (most nodes then_nodes frames then_frames : ℕ) → nodes < most → then_nodes ≡ nodes + 1
+    → then_frames ≡ frames + 1 → 2 * (most - then_nodes) + then_frames < 2 * (most - nodes) + frames
+smaller_entered most nodes then_nodes frames then_frames a b c = omega (arith, a, b, c)
+
+smaller_left : (nodes frames then_frames : ℕ) → frames ≡ then_frames + 1
+    → nodes + then_frames < nodes + frames
+smaller_left nodes frames then_frames a = omega (arith, a)
+
+pub loop-branch-smaller-in-Some-next_branch : goal.loop-branch-smaller-in-Some-next_branch
+loop-branch-smaller-in-Some-next_branch g c =
+    let counted = rw (c.in-Some-2.is, c.len.ensures) at c.in_ok-child-in-Some-next_branch.ensures.counted in
+    smaller_entered _ _ _ _ _ counted.1 (ap (λ (n : Count). n.nodes) counted.2)
+    (ap length c.push.ensures.frames ∙ length-append (frames_of c.loop-branch.path) _)
+
+pub loop-branch-smaller : goal.loop-branch-smaller
+loop-branch-smaller g c =
+    smaller_left _ _ _ (ap length c.in-Some-pop.ensures.frames ∙ length-append (frames_of c.pop.new.self) _)
+
+pub returns-in_default-clause-limit : goal.returns-in_default-clause-limit
+returns-in_default-clause-limit g c = c.enter.ensures.limit
+
+pub returns-in_default-clause-room : goal.returns-in_default-clause-room
+returns-in_default-clause-room g c = c.enter.ensures.room
+
+pub returns-in_default-clause-within : goal.returns-in_default-clause-within
+returns-in_default-clause-within g c = c.enter.ensures.within
+
+pub returns-in_default-clause-depth : goal.returns-in_default-clause-depth
+returns-in_default-clause-depth g c = c.clear.ensures.depth
+
+pub returns-in_err-top-clause-limit : goal.returns-in_err-top-clause-limit
+returns-in_err-top-clause-limit g c = c.enter.ensures.limit
+
+pub returns-in_err-top-clause-room : goal.returns-in_err-top-clause-room
+returns-in_err-top-clause-room g c = c.enter.ensures.room
+
+pub returns-in_err-top-clause-within : goal.returns-in_err-top-clause-within
+returns-in_err-top-clause-within g c = c.enter.ensures.within
+
+pub returns-in_err-top-clause-depth : goal.returns-in_err-top-clause-depth
+returns-in_err-top-clause-depth g c = c.clear.ensures.depth
+
+pub returns-in_err-child-in-Some-next_branch-clause-room :
+    goal.returns-in_err-child-in-Some-next_branch-clause-room
+returns-in_err-child-in-Some-next_branch-clause-room g c = c.enter-in-Some-next_branch.ensures.room
+
+pub returns-in_err-child-in-Some-next_branch-clause-within :
+    goal.returns-in_err-child-in-Some-next_branch-clause-within
+returns-in_err-child-in-Some-next_branch-clause-within g c = c.enter-in-Some-next_branch.ensures.within

@@ -1,5 +1,5 @@
 use Rattle.std.proofs.Common.{◌≡◌, ◌+◌, ◌<◌, false, true, length, get_or, slice_index}
-use Rattle.std.proofs.Common.{ap, refl, sym, subst, ◌∙◌, rules}
+use Rattle.std.proofs.Common.{ap, refl, sym, subst, ◌∙◌, arith, rules}
 use Rattle.bb_machine.specs.declared.entry.Dir.TheVariants.{R}
 use Rattle.bb_tree.specs.inside.Walk.{endless_of, starts_of}
 use Rattle.bb_tree.proofs.Roots.{IsRoot, root_is, root_explored, root_stops, roots_begin}
@@ -85,3 +85,58 @@ returns-clause-walked g c =
     let ends = end_at c.deref-2.ensures.0 c.states-halting.ensures.value in
     roots_end c.args.machine.now c.gather.new.self.list.items c.loop-index.index _ c.args.most
     c.loop-index.entered (past_end ends c.loop-index-test.false) c.loop-index.invariant.walked
+
+pub returns-then-has_root-clause-within : goal.returns-then-has_root-clause-within
+returns-then-has_root-clause-within g c =
+    no_more c.args.most c.args.entered.now c.requires.nodes c.requires.levels
+
+pub overflow_cast-rule : goal.overflow_cast-rule
+overflow_cast-rule g c = omega (arith, rule_within (root_here g c), c.deref-in-loop-index.type_inv.0)
+
+pub offset_bounds-deref-index : goal.offset_bounds-deref-index
+offset_bounds-deref-index g c = omega (arith, rule_within (root_here g c), c.deref-in-loop-index.type_inv.1)
+
+pub explore-requires-clause-rules : goal.explore-requires-clause-rules
+explore-requires-clause-rules g c = (c.args.machine.now, c.gather.ensures.rules)
+
+pub loop-index-smaller : goal.loop-index-smaller
+loop-index-smaller g c = omega (arith, c.loop-index-test.true)
+
+pub returns-in_err-explore-clause-machine : goal.returns-in_err-explore-clause-machine
+returns-in_err-explore-clause-machine g c = c.gather.ensures.machine
+
+pub returns-in_err-explore-clause-within : goal.returns-in_err-explore-clause-within
+returns-in_err-explore-clause-within g c = c.explore.ensures.within
+
+pub returns-in_err-explore-clause-limit : goal.returns-in_err-explore-clause-limit
+returns-in_err-explore-clause-limit g c = c.explore.ensures.limit ∙ c.loop-index.invariant.limit
+
+pub returns-in_err-explore-clause-depth : goal.returns-in_err-explore-clause-depth
+returns-in_err-explore-clause-depth g c = c.explore.ensures.depth ∙ c.loop-index.invariant.depth
+
+pub returns-then-not-branch-clause-machine : goal.returns-then-not-branch-clause-machine
+returns-then-not-branch-clause-machine g c = c.gather.ensures.machine
+
+pub returns-then-not-branch-clause-within : goal.returns-then-not-branch-clause-within
+returns-then-not-branch-clause-within g c = c.explore.ensures.within
+
+pub returns-then-not-branch-clause-limit : goal.returns-then-not-branch-clause-limit
+returns-then-not-branch-clause-limit g c = c.explore.ensures.limit ∙ c.loop-index.invariant.limit
+
+pub returns-then-not-branch-clause-depth : goal.returns-then-not-branch-clause-depth
+returns-then-not-branch-clause-depth g c = c.explore.ensures.depth ∙ c.loop-index.invariant.depth
+
+pub returns-clause-machine : goal.returns-clause-machine
+returns-clause-machine g c = c.gather.ensures.machine
+
+pub returns-clause-within : goal.returns-clause-within
+returns-clause-within g c = c.loop-index.invariant.within
+
+pub returns-clause-limit : goal.returns-clause-limit
+returns-clause-limit g c = c.loop-index.invariant.limit
+
+pub returns-clause-depth : goal.returns-clause-depth
+returns-clause-depth g c = c.loop-index.invariant.depth
+
+pub returns-then-has_root-clause-machine : goal.returns-then-has_root-clause-machine
+returns-then-has_root-clause-machine g c = c.has_root.ensures.machine

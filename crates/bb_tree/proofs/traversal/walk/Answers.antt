@@ -1,4 +1,4 @@
-use Rattle.std.proofs.Common.{◌≡◌, true, refl, rules}
+use Rattle.std.proofs.Common.{◌≡◌, true, refl, arith, rules}
 use Rattle.bb_tree.proofs.TreeEnds.{clear_trees_never_halt}
 use Rattle.bb_tree.proofs.traversal.walk.Goals as goal
 
@@ -13,3 +13,30 @@ returns-then-branch-clause-blank g c = rw c.reset-2.ensures refl
 
 pub returns-else-branch-clause-blank : goal.returns-else-branch-clause-blank
 returns-else-branch-clause-blank g c = rw c.reset-2.ensures refl
+
+pub explore_all-ends-requires-clause-path : goal.explore_all-ends-requires-clause-path
+explore_all-ends-requires-clause-path g c = c.requires.path
+
+pub overflow_add-meter : goal.overflow_add-meter
+overflow_add-meter g c = omega (arith, c.requires.meter, c.explore_all-ends.ensures.within.nodes)
+
+pub returns-in_err-ends-clause-limit : goal.returns-in_err-ends-clause-limit
+returns-in_err-ends-clause-limit g c =
+    rw (c.reset-2.ensures, c.explore_all-ends.ensures.limit, c.reset.ensures) refl
+
+pub returns-in_err-ends-clause-depth : goal.returns-in_err-ends-clause-depth
+returns-in_err-ends-clause-depth g c = c.explore_all-ends.ensures.depth
+
+pub returns-then-branch-clause-limit : goal.returns-then-branch-clause-limit
+returns-then-branch-clause-limit g c =
+    rw (c.reset-2.ensures, c.explore_all-ends.ensures.limit, c.reset.ensures) refl
+
+pub returns-then-branch-clause-depth : goal.returns-then-branch-clause-depth
+returns-then-branch-clause-depth g c = c.explore_all-ends.ensures.depth
+
+pub returns-else-branch-clause-limit : goal.returns-else-branch-clause-limit
+returns-else-branch-clause-limit g c =
+    rw (c.reset-2.ensures, c.explore_all-ends.ensures.limit, c.reset.ensures) refl
+
+pub returns-else-branch-clause-depth : goal.returns-else-branch-clause-depth
+returns-else-branch-clause-depth g c = c.explore_all-ends.ensures.depth
