@@ -77,7 +77,7 @@ invariant_of-self g c =
     let below : c.args.position <ℤ runner.low = search rules in
     let near : runner.low ≤ℤ (c.args.position +ℤ pos 1) = rw (← c.requires.low) c.requires.near.0 in
     let room = room_left runner (g.T.Tape.view c.args.tape.now) c.args.position sound c.requires.low c.requires.high
-        (λ e. c.if-self-cells.false (e ∙ c.requires.limit ∙ sym c.cells.ensures.value)) in
+    (λ e. c.if-self-cells.false (e ∙ c.requires.limit ∙ sym c.cells.ensures.value)) in
     record {
       some_cell = omega arith;
       few_cells = omega (arith, ints, room, sound.limited, c.requires.low, c.requires.high);
@@ -91,7 +91,7 @@ invariant_of-self-2 g c =
     let runner = c.args.self.now in
     let sound = g.met.T.Tape.sound c.args.tape.now in
     let room = room_left runner (g.T.Tape.view c.args.tape.now) c.args.position sound c.requires.low c.requires.high
-        (λ e. c.if-self-cells.false (e ∙ c.requires.limit ∙ sym c.cells.ensures.value)) in
+    (λ e. c.if-self-cells.false (e ∙ c.requires.limit ∙ sym c.cells.ensures.value)) in
     record {
       some_cell = omega arith;
       few_cells = omega (arith, ints, room, sound.limited, c.requires.low, c.requires.high);
