@@ -1,12 +1,26 @@
 use Rattle.std.proofs.Common.{◌≡◌, ◌<ℤ◌, ◌≤ℤ◌, ◌+ℤ◌, pos, refl, sym, ◌∙◌, w64, FitsSigned, IsTrue, arith}
 use Rattle.std.proofs.Common.{rules}
 use Rattle.std.proofs.lemmas.Int.{ints, clamps, to_z-of_z}
-use Rattle.bb_tape.specs.TapeView.{IsInside}
+use Rattle.std.specs.Prelude.{◌≢◌}
+use Rattle.bb_tape.specs.TapeView.{IsInside, width}
 use Rattle.bb_sim.specs.Runner.{low_of, high_of}
 use Rattle.bb_sim.proofs.Positions.{min-same, max-same}
 use Rattle.bb_sim.proofs.Standing.{inside_fits, inside_stays, room_left, fits_next, next_above}
 use Rattle.bb_sim.proofs.Standing.{high_stays, high_grows}
+use Rattle.bb_sim.proofs.runner.Runner.enter.Given as given
 use Rattle.bb_sim.proofs.runner.Runner.enter.Goals as goal
+use Rattle.bb_sim.proofs.runner.Runner.enter.Goals.{Else-self-cells}
+
+not_full : (g : given.Over) (c : Else-self-cells g)
+    → c.args.self.now.cells ≢ (g.T.Tape.view c.args.tape.now).limit
+not_full g c e = c.if-self-cells.false (e ∙ c.requires.limit ∙ sym c.cells.ensures.value)
+
+-- the window has room for a cell more
+room : (g : given.Over) (c : Else-self-cells g)
+    → width (g.T.Tape.view c.args.tape.now) <ℤ pos (g.T.Tape.view c.args.tape.now).limit
+room g c =
+    room_left c.args.self.now (g.T.Tape.view c.args.tape.now) c.args.position
+    (g.met.T.Tape.sound c.args.tape.now) c.requires.low c.requires.high (not_full g c)
 
 pub is_inside-requires-clause-low : goal.is_inside-requires-clause-low
 is_inside-requires-clause-low g c =
@@ -42,10 +56,7 @@ widen_low-requires-clause-next g c =
     simp to_z-of_z (omega (arith, ints, c.requires.near.0, c.requires.low, below))
 
 pub widen_low-requires-clause-room : goal.widen_low-requires-clause-room
-widen_low-requires-clause-room g c =
-    room_left c.args.self.now (g.T.Tape.view c.args.tape.now) c.args.position
-    (g.met.T.Tape.sound c.args.tape.now) c.requires.low c.requires.high
-    (λ e. c.if-self-cells.false (e ∙ c.requires.limit ∙ sym c.cells.ensures.value))
+widen_low-requires-clause-room g c = room g (goal.at.widen_low-requires-clause-room g c).Else-self-cells
 
 pub overflow_add-self : goal.overflow_add-self
 overflow_add-self g c = omega (arith, c.args.self.now.few_cells)
@@ -63,10 +74,7 @@ widen_high-requires-clause-next g c =
     (g.met.T.Tape.sound c.args.tape.now) c.requires.low c.requires.high outside c.requires.near at)
 
 pub widen_high-requires-clause-room : goal.widen_high-requires-clause-room
-widen_high-requires-clause-room g c =
-    room_left c.args.self.now (g.T.Tape.view c.args.tape.now) c.args.position
-    (g.met.T.Tape.sound c.args.tape.now) c.requires.low c.requires.high
-    (λ e. c.if-self-cells.false (e ∙ c.requires.limit ∙ sym c.cells.ensures.value))
+widen_high-requires-clause-room g c = room g (goal.at.widen_high-requires-clause-room g c).Else-self-cells
 
 pub invariant_of-self : goal.invariant_of-self
 invariant_of-self g c =
@@ -76,25 +84,23 @@ invariant_of-self g c =
     let low_fits : FitsSigned w64 runner.low = search rules in
     let below : c.args.position <ℤ runner.low = search rules in
     let near : runner.low ≤ℤ (c.args.position +ℤ pos 1) = rw (← c.requires.low) c.requires.near.0 in
-    let room = room_left runner (g.T.Tape.view c.args.tape.now) c.args.position sound c.requires.low c.requires.high
-    (λ e. c.if-self-cells.false (e ∙ c.requires.limit ∙ sym c.cells.ensures.value)) in
+    let fits = room g (goal.at.invariant_of-self g c).Else-self-cells in
     record {
       some_cell = omega arith;
-      few_cells = omega (arith, ints, room, sound.limited, c.requires.low, c.requires.high);
+      few_cells = omega (arith, ints, fits, sound.limited, c.requires.low, c.requires.high);
       low_to_zero = simp to_z-of_z (omega (arith, ints, runner.low_to_zero, below));
       low_small = simp to_z-of_z
-          (omega (arith, ints, room, sound.limited, sound.to_zero, c.requires.low, c.requires.high, near));
+          (omega (arith, ints, fits, sound.limited, sound.to_zero, c.requires.low, c.requires.high, near));
     }
 
 pub invariant_of-self-2 : goal.invariant_of-self-2
 invariant_of-self-2 g c =
     let runner = c.args.self.now in
     let sound = g.met.T.Tape.sound c.args.tape.now in
-    let room = room_left runner (g.T.Tape.view c.args.tape.now) c.args.position sound c.requires.low c.requires.high
-    (λ e. c.if-self-cells.false (e ∙ c.requires.limit ∙ sym c.cells.ensures.value)) in
+    let fits = room g (goal.at.invariant_of-self-2 g c).Else-self-cells in
     record {
       some_cell = omega arith;
-      few_cells = omega (arith, ints, room, sound.limited, c.requires.low, c.requires.high);
+      few_cells = omega (arith, ints, fits, sound.limited, c.requires.low, c.requires.high);
       low_to_zero = runner.low_to_zero;
       low_small = runner.low_small;
     }
@@ -109,7 +115,7 @@ returns-then-position-self g c =
     let below : c.args.position <ℤ runner.low = search rules in
     let near : runner.low ≤ℤ (c.args.position +ℤ pos 1) = rw (← c.requires.low) c.requires.near.0 in (
       fits_next runner view c.args.position sound c.requires.low c.requires.high
-          (λ e. c.if-self-cells.false (e ∙ c.requires.limit ∙ sym c.cells.ensures.value)) c.requires.near,
+          (not_full g (goal.at.returns-then-position-self g c).Else-self-cells) c.requires.near,
       simp to_z-of_z at c.widen_low.ensures,
       record {
         state = refl;
@@ -136,7 +142,7 @@ returns g c =
     next_above runner view c.args.position sound c.requires.low c.requires.high outside c.requires.near at in
     let above : c.args.position ≡ high_of runner +ℤ pos 1 = rw (← c.requires.high) next in (
       fits_next runner view c.args.position sound c.requires.low c.requires.high
-          (λ e. c.if-self-cells.false (e ∙ c.requires.limit ∙ sym c.cells.ensures.value)) c.requires.near,
+          (not_full g (goal.at.returns g c).Else-self-cells) c.requires.near,
       simp to_z-of_z at c.widen_high.ensures,
       record {
         state = refl;
