@@ -1,36 +1,40 @@
+use Rattle.bb_machine.specs.Limits.{Bounds}
+use Rattle.bb_machine.specs.Machine.{Table}
+use Rattle.bb_sim.specs.declared.meter.Meter.{Meter}
 use Rattle.bb_sim.specs.Meter.{CountsRun, zero_meter}
 use Rattle.bb_cert.specs.declared.checker.answer.Answer.{Answer}
 use Rattle.bb_cert.specs.declared.checker.answer.Answer.TheVariants as answer
 use Rattle.bb_cert.specs.declared.verdict.Verdict.{Verdict}
 use Rattle.bb_cert.specs.checker.Answer.{IsSettled}
-use Rattle.bb_cert.specs.checker.ClaimMeter.{CountsCheck, CountsWindow, IsOfPair, replay_bounds}
+use Rattle.bb_cert.specs.checker.ClaimMeter.{CountsCheck, CountsWindow, IsOfPair, IsOfTree, IsReplayed}
+use Rattle.bb_cert.specs.checker.ClaimMeter.{replay_bounds}
 use Rattle.bb_tree.specs.Tree.{EndsWithin}
-use Rattle.std.proofs.Common.{◌≡◌, ℕ, subst}
+use Rattle.std.proofs.Common.{◌≡◌, ℕ, Result, subst}
+use Rattle.std.specs.Prelude.{IfOk}
 use Rattle.bb_cert.specs.declared.verdict.Verdict.TheVariants.{Backward, Cycler, Translated}
 use Rattle.bb_cert.proofs.checker_lemmas.AnswerRules.{where_ok}
 use Rattle.bb_cert.proofs.checker_lemmas.ClaimChecks.{replay_counts, replay_window, tree_counts}
 use Rattle.bb_cert.proofs.checker.checking.check_claim.Goals as goal
 
+-- what a replay that answers has counted
+pair_cost : (table : Table) (bounds : Bounds) (verdict : Verdict) (meter : Meter) {E : Type 0}
+    (result : Result Answer E)
+    → IsReplayed bounds verdict → (IsOfTree verdict → ⊥)
+    → IfOk result (λ given. CountsRun table (replay_bounds bounds verdict) zero_meter meter)
+    → IfOk result (λ given. CountsCheck table bounds verdict meter)
+pair_cost table bounds verdict meter result replayed no_tree =
+    where_ok (λ (given : Answer). CountsRun table (replay_bounds bounds verdict) zero_meter meter)
+    (λ (given : Answer). CountsCheck table bounds verdict meter) result
+    (λ given run. replay_counts table bounds verdict meter replayed no_tree run)
+
 pub returns-in-Translated-clause-cost : goal.returns-in-Translated-clause-cost
 returns-in-Translated-clause-cost g c =
-    let table = c.args.machine.now in
-    let bounds = c.args.limits.now in
-    let meter = c.check_translated.new.meter in
-    where_ok (λ (given : Answer). CountsRun table (replay_bounds bounds c.args.verdict) zero_meter meter)
-    (λ (given : Answer). CountsCheck table bounds c.args.verdict meter) _
-    (λ given run. replay_counts table bounds c.args.verdict meter
-    (c.requires.open, rw c.in-Translated.is tt) (rw c.in-Translated.is (λ tree. tree)) run)
+    pair_cost _ _ _ _ _ (c.requires.open, rw c.in-Translated.is tt) (rw c.in-Translated.is (λ tree. tree))
     (rw c.in-Translated.is (rw c.with_steps-limits-in-Translated.ensures at c.check_translated.ensures.replayed))
 
 pub returns-in-Cycler-clause-cost : goal.returns-in-Cycler-clause-cost
 returns-in-Cycler-clause-cost g c =
-    let table = c.args.machine.now in
-    let bounds = c.args.limits.now in
-    let meter = c.check_cycler.new.meter in
-    where_ok (λ (given : Answer). CountsRun table (replay_bounds bounds c.args.verdict) zero_meter meter)
-    (λ (given : Answer). CountsCheck table bounds c.args.verdict meter) _
-    (λ given run. replay_counts table bounds c.args.verdict meter
-    (c.requires.open, rw c.in-Cycler.is tt) (rw c.in-Cycler.is (λ tree. tree)) run)
+    pair_cost _ _ _ _ _ (c.requires.open, rw c.in-Cycler.is tt) (rw c.in-Cycler.is (λ tree. tree))
     (rw c.in-Cycler.is (rw c.with_steps-limits.ensures at c.check_cycler.ensures.replayed))
 
 pub returns-in-Backward-clause-cost : goal.returns-in-Backward-clause-cost
