@@ -51,7 +51,8 @@ returns-in-NoSteps g c begun counts =
     let here = c.loop-runner.invariant in
     let call = c.in_ok-advance.ensures in
     let asked = rw c.in-NoSteps.is at call.answers in
-    simulated (here.run begun counts) call.stands _ _ (no_steps_apart _ c.in-NoSteps.is) call.reaches call.moves
+    simulated (here.run begun counts) call.stands _ _ (no_steps_apart _ c.in-NoSteps.is) call.reaches
+    call.moves
     (call.limit ∙ here.limit ∙ sym c.requires.limit)
     (λ last. (no_halt_inside _ _ _ last.inside last asked.0, rw (← asked.1) last.inside.within_cells))
 
@@ -60,7 +61,8 @@ returns-in-NoCells g c begun counts =
     let here = c.loop-runner.invariant in
     let call = c.in_ok-advance.ensures in
     let asked = rw c.in-NoCells.is at call.answers in
-    simulated (here.run begun counts) call.stands _ _ (no_cells_apart _ c.in-NoCells.is) call.reaches call.moves
+    simulated (here.run begun counts) call.stands _ _ (no_cells_apart _ c.in-NoCells.is) call.reaches
+    call.moves
     (call.limit ∙ here.limit ∙ sym c.requires.limit)
     (λ last. (no_halt_inside _ _ _ last.inside last asked.0, wide_at_end _ _ _ last.inside asked.2 asked.1))
 

@@ -47,10 +47,12 @@ module _ (g : given.Over) (c : In-None-2 g) where
       }
 
   -- what is followed went along both parts
-  along : g.A.Course.goes_on c.args.machine.now 0 c.args.limits.now.steps c.args.along.now c.run_to-2.new.along
+  along : g.A.Course.goes_on c.args.machine.now 0 c.args.limits.now.steps c.args.along.now
+      c.run_to-2.new.along
   along =
       let first = rw (c.begin.ensures.made, c.in-None.is) at c.in_ok-answer.ensures.runs in
-      let second = rw (c.in-None-2.is, at_first, c.steps-second.ensures.value) at c.in_ok-answer-2.ensures.runs in
+      let second = rw (c.in-None-2.is, at_first, c.steps-second.ensures.value) at
+      c.in_ok-answer-2.ensures.runs in
       g.met.A.Course.goes_further _ _ _ _ _ _ _ first.3 second.3
 
   some_view : IsViewAt c.args.machine.now c.args.claim.first c.runner-at_first.ensures.view
